@@ -1,0 +1,5 @@
+pub mod Bounds
+pub mod Least
+pub mod Turn
+pub mod Ranges
+pub mod Splits

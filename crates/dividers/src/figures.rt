@@ -1,0 +1,11 @@
+//! The rates whose figures are settled.
+ghost use mathlib.Core.Path.{_≡_};
+ghost use Rattle.dividers.specs.Figures.{ratesShown, Figures-settled};
+
+/// Four common rates in hertz, to be shown with their dividers.
+pub fn settled_rates() -> [u32; 4]
+    ensures rates { λ r. ⌜ r ≡ ratesShown ⌝ }
+    ensures settled { λ _. ⌜ Figures-settled ⌝ }
+{
+    [8_000, 32_000, 44_100, 48_000]
+}
