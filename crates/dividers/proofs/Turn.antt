@@ -57,16 +57,10 @@ exact l u max best le (h, was) e =
     let none : missOf l (best .denominator) ≡ 0 = sym (ap (λ (t : Tried). t .miss) was) ∙ eqb-true _ _ e in
     (record { from = h .from; to = omega (arith, h .to); least = λ k from to. omega arith; first = h .first }, was)
 
--- the best of all denominators is the pair, by its rule and computed
-pub pairs : (l : Left) (max : ℕ) (best : Tried) → hasPair l max ≡ true → Best l max best
-    → PairRule l max (best .denominator) (best .numerator) × (_≡_ {A = ℕ × ℕ} (best .denominator, best .numerator) (pairOf l max))
-pairs l max best has (h, was) =
-    (record { none = λ e. absurd (both-ways _ e has); found = λ e. (h, numerator) },
-    pairing (one-only (missOf l) max (best .denominator) _ h (computed-least (missOf l) max (leb-true _ _ (and-parts _ _ has .1)))) ∙ sym (cond-true (hasPair l max) _ _ has))
-    where
-  numerator : best .numerator ≡ numeratorAt (l .decimal) (best .denominator)
-  numerator = ap (λ (t : Tried). t .numerator) was
-
-  pairing : best .denominator ≡ firstLeast (missOf l) max
-      → _≡_ {A = ℕ × ℕ} (best .denominator, best .numerator) (firstLeast (missOf l) max, numeratorAt (l .decimal) (firstLeast (missOf l) max))
-  pairing e = ap (λ (n : ℕ). (best .denominator, n)) numerator ∙ ap (λ (a : ℕ). (a, numeratorAt (l .decimal) a)) e
+-- the best of all denominators gives the pair, by its rule and computed
+pub pairs : (l : Left) (max a n : ℕ) → hasPair l max ≡ true → FirstLeast (missOf l) max a → n ≡ numeratorAt (l .decimal) a
+    → PairRule l max a n × (_≡_ {A = ℕ × ℕ} (a, n) (pairOf l max))
+pairs l max a n has h is =
+    let same : a ≡ firstLeast (missOf l) max = one-only (missOf l) max a _ h (computed-least (missOf l) max (leb-true _ _ (and-parts _ _ has .1))) in
+    (record { none = λ e. absurd (both-ways _ e has); found = λ e. (h, is) },
+    ap (λ (k : ℕ). (a, k)) is ∙ ap (λ (k : ℕ). (k, numeratorAt (l .decimal) k)) same ∙ sym (cond-true (hasPair l max) _ _ has))

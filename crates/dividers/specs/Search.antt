@@ -4,7 +4,7 @@
 --     missWith l a n       by how much a denominator a misses with a numerator n
 --     missOf l a           and with its own
 --     trialAt l a          denominator, and the two products that the next ones are
---     triedAt l a          denominator, numerator and miss
+--     triedAt l a          denominator and miss
 --     FirstLeast f max a   of 2 to max, a is the first at which f is least
 use mathlib.Core.Path.{_≡_}
 use Prim.Native.Nat.{ℕ, _+_, _-_, _*_, _/_, _≤_, _<_}
@@ -28,7 +28,7 @@ abbrev pub trialAt : Left → ℕ → Trial
 trialAt l a = record { denominator = a; ahead = l .rest * a; scaled = a * l .decimal + 5000 }
 
 abbrev pub triedAt : Left → ℕ → Tried
-triedAt l a = record { denominator = a; numerator = numeratorAt (l .decimal) a; miss = missOf l a }
+triedAt l a = record { denominator = a; miss = missOf l a }
 
 pub record FirstLeast (f : ℕ → ℕ) (max a : ℕ) : Type 0 where
   pub from : 2 ≤ a

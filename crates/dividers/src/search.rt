@@ -3,7 +3,7 @@ ghost use mathlib.Core.Path.{_≡_};
 ghost use Prim.Native.Nat.{_+_, _^_, _≤_, _<_};
 ghost use lib.Dec.{eqb, ltb};
 ghost use Rattle.dividers.specs.Pair.{PairRule, hasPair, pairOf};
-ghost use Rattle.dividers.specs.Search.{FirstLeast, missOf, trialAt, triedAt};
+ghost use Rattle.dividers.specs.Search.{FirstLeast, missOf, numeratorAt, trialAt, triedAt};
 ghost use Rattle.dividers.specs.Clock.{leftOf};
 
 /// The source clock of both chips, in hertz.
@@ -36,27 +36,25 @@ pub struct Trial {
     pub scaled: u64,
 }
 
-// A denominator with its numerator, and by how much the two miss: |rest × denominator − mclk × numerator|.
+// A denominator, and by how much it misses with its numerator: |rest × denominator − mclk × numerator|.
 #[derive(Clone, Copy)]
 pub struct Tried {
     pub denominator: u64,
-    pub numerator: u64,
     pub miss: u64,
 }
 
 // Before the first trial: anything is better.
 const NOTHING: Tried = Tried {
     denominator: 0,
-    numerator: 0,
     miss: u64::MAX,
 };
 
 impl Trial {
-    // Whether the largest denominator has been on trial.
-    fn is_past(&self, max: u32) -> bool
-        ensures { λ r. ⌜ r ≡ ltb max (now (self .entry) .denominator) ⌝ }
+    // Whether this is the largest denominator.
+    fn is_last(&self, max: u32) -> bool
+        ensures { λ r. ⌜ r ≡ eqb (now (self .entry) .denominator) max ⌝ }
     {
-        self.denominator > max as u64
+        self.denominator == max as u64
     }
 }
 
@@ -119,7 +117,7 @@ impl Left {
         }
     }
 
-    // The denominator on trial with the numerator nearest to its share of the decimal.
+    // The denominator on trial, with the numerator nearest to its share of the decimal.
     fn tried(&self, trial: Trial) -> Tried
         requires small { ⌜ now self .decimal ≤ 9920 ⌝ }
         requires below { ⌜ trial .denominator < 2 ^ 32 ⌝ }
@@ -129,7 +127,6 @@ impl Left {
         let numerator = trial.scaled / WHOLE_DECIMAL;
         Tried {
             denominator: trial.denominator,
-            numerator,
             miss: trial.ahead.abs_diff(self.mclk as u64 * numerator),
         }
     }
@@ -146,9 +143,6 @@ impl Left {
         let mut trial = self.first_trial();
         let mut best = NOTHING;
         loop {
-            if trial.is_past(max) {
-                break best;
-            }
             let tried = self.tried(trial);
             if tried.is_better(&best) {
                 best = tried;
@@ -156,8 +150,20 @@ impl Left {
                     break best;
                 }
             }
+            if trial.is_last(max) {
+                break best;
+            }
             trial = self.next_trial(trial);
         }
+    }
+
+    // The numerator nearest to a denominator's share of the decimal.
+    fn numerator(&self, denominator: u64) -> u32
+        requires small { ⌜ now self .decimal ≤ 9920 ⌝ }
+        requires below { ⌜ denominator < 2 ^ 32 ⌝ }
+        ensures { λ r. ⌜ r ≡ numeratorAt (now (self .entry) .decimal) denominator ⌝ }
+    {
+        ((denominator * self.decimal + HALF_DECIMAL) / WHOLE_DECIMAL) as u32
     }
 
     // Whether there is a pair.
@@ -178,6 +184,6 @@ impl Left {
             return (0, 0);
         }
         let best = self.nearest(max);
-        (best.denominator as u32, best.numerator as u32)
+        (best.denominator as u32, self.numerator(best.denominator))
     }
 }
