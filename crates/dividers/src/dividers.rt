@@ -12,7 +12,7 @@ use crate::search::Left;
 
 /// What a unit's clocks are made by: the source clock is divided by `mclk_divider` + `numerator` / `denominator`, and the
 /// result by `bclk_divider`.
-#[derive(Clone, Copy, PartialEq, Eq, Debug)]
+#[derive(Clone, Copy)]
 pub struct I2sClockDividers {
     /// The integer part, after its carry.
     pub mclk_divider: u32,
@@ -25,14 +25,14 @@ pub struct I2sClockDividers {
 }
 
 /// The integer parts that a chip takes, from the least to the most.
-#[derive(Clone, Copy, PartialEq, Eq, Debug)]
+#[derive(Clone, Copy)]
 pub struct DividerRange {
     pub least: u32,
     pub most: u32,
 }
 
-// How many main clock ticks a sample takes: 24 bits need a multiple of three.
-fn mclk_multiple(data_bits: u8) -> u32
+/// How many main clock ticks a sample takes: 24 bits need a multiple of three.
+pub fn mclk_multiple(data_bits: u8) -> u32
     ensures { λ r. ⌜ r ≡ multipleOf «data_bits» ⌝ }
 {
     if data_bits == 24 { 192 } else { 256 }

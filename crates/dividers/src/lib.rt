@@ -8,7 +8,9 @@ mod split;
 
 pub use dividers::DividerRange;
 pub use dividers::I2sClockDividers;
+pub use dividers::mclk_multiple;
 pub use error::ConfigError;
+pub use error::ConfigErrorDebug;
 pub use figures::settled_rates;
 pub use rate::Rate;
 pub use split::I2sMclkDividers;

@@ -2,7 +2,7 @@
 ghost use mathlib.Core.Path.{_≡_};
 
 /// A rate of events, in whole hertz.
-#[derive(Clone, Copy, PartialEq, Eq, Debug)]
+#[derive(Clone, Copy)]
 pub struct Rate(u32);
 
 impl Rate {

@@ -9,7 +9,7 @@ use crate::dividers::I2sClockDividers;
 use crate::error::ConfigError;
 
 /// A pair in four parts. At 44,100 Hz the pair 441 and 76 is 5 times 76 and 61 more, so x is 4, y 61, z 76 and yn1 unset.
-#[derive(Clone, Copy, PartialEq, Eq, Debug)]
+#[derive(Clone, Copy)]
 pub struct I2sMclkDividers {
     pub x: u32,
     pub y: u32,
