@@ -3,6 +3,10 @@ ghost use mathlib.Core.Path.{_≡_};
 ghost use Rattle.std.specs.Vec.{made};
 ghost use Rattle.plans.specs.Lines.{readingOf};
 ghost use Rattle.plans.specs.Outcomes.{outcomeOf};
+use crate::words::add;
+use crate::words::add_cause;
+use crate::words::add_plan;
+use crate::words::chip_name;
 use plans::Ask;
 use plans::Outcome;
 use plans::Reading;
@@ -10,10 +14,6 @@ use plans::Tally;
 use plans::Unread;
 use plans::chips;
 use plans::read_line;
-use crate::words::add;
-use crate::words::add_cause;
-use crate::words::add_plan;
-use crate::words::chip_name;
 use std::alloc::AllocError;
 use std::alloc::Global;
 
@@ -34,12 +34,18 @@ pub fn answer_line(heap: Global, number: u64, line: &[u8]) -> Result<Answer, All
         Reading::Plan(ask) => plans_text(heap, ask)?,
         Reading::Not(unread) => unread_text(heap, number, line, unread)?,
     };
-    Ok(Answer { outcome: reading.outcome(), text })
+    Ok(Answer {
+        outcome: reading.outcome(),
+        text,
+    })
 }
 
 /// The closing line: how many lines there were, and what came of them.
 pub fn summary(heap: Global, tally: &Tally) -> Result<String, AllocError> {
-    let lines = tally.planned.saturating_add(tally.refused).saturating_add(tally.unread);
+    let lines = tally
+        .planned
+        .saturating_add(tally.refused)
+        .saturating_add(tally.unread);
     let mut text = String::new(heap);
     add(heap, &mut text, "", lines)?;
     text.push_str(if lines == 1 { " line" } else { " lines" })?;
@@ -71,10 +77,32 @@ fn plans_text(heap: Global, ask: Ask) -> Result<String, AllocError> {
 // How many bytes of a line that cannot be read are shown.
 const SHOWN: usize = 40;
 
-const HEX: [char; 16] = ['0', '1', '2', '3', '4', '5', '6', '7', '8', '9', 'a', 'b', 'c', 'd', 'e', 'f'];
+const HEX: [char; 16] = [
+    '0',
+    '1',
+    '2',
+    '3',
+    '4',
+    '5',
+    '6',
+    '7',
+    '8',
+    '9',
+    'a',
+    'b',
+    'c',
+    'd',
+    'e',
+    'f',
+];
 
 // A line that cannot be read: its number, why, and how it begins.
-fn unread_text(heap: Global, number: u64, line: &[u8], unread: Unread) -> Result<String, AllocError> {
+fn unread_text(
+    heap: Global,
+    number: u64,
+    line: &[u8],
+    unread: Unread,
+) -> Result<String, AllocError> {
     let mut text = String::new(heap);
     add(heap, &mut text, "line ", number)?;
     text.push_str(" is not read: ")?;

@@ -64,7 +64,13 @@ pub fn add_cause(heap: Global, text: &mut String, unread: Unread) -> Result<(), 
 }
 
 // Adds one chip's plan.
-pub fn add_plan(heap: Global, text: &mut String, chip: &Chip, ask: Ask, plan: Plan) -> Result<(), AllocError> {
+pub fn add_plan(
+    heap: Global,
+    text: &mut String,
+    chip: &Chip,
+    ask: Ask,
+    plan: Plan,
+) -> Result<(), AllocError> {
     match plan {
         Plan::Whole(dividers) => add_dividers(heap, text, dividers),
         Plan::Split(dividers, split) => {
@@ -76,7 +82,11 @@ pub fn add_plan(heap: Global, text: &mut String, chip: &Chip, ask: Ask, plan: Pl
     }
 }
 
-fn add_dividers(heap: Global, text: &mut String, dividers: I2sClockDividers) -> Result<(), AllocError> {
+fn add_dividers(
+    heap: Global,
+    text: &mut String,
+    dividers: I2sClockDividers,
+) -> Result<(), AllocError> {
     add(heap, text, "integer part ", dividers.mclk_divider as u64)?;
     add(heap, text, ", bit divider ", dividers.bclk_divider as u64)?;
     add(heap, text, ", pair ", dividers.denominator as u64)?;
@@ -91,7 +101,13 @@ fn add_split(heap: Global, text: &mut String, split: I2sMclkDividers) -> Result<
 }
 
 // Adds a refusal by its number and name, with what is out of range and its limit.
-fn add_refusal(heap: Global, text: &mut String, chip: &Chip, error: ConfigError, fault: Fault) -> Result<(), AllocError> {
+fn add_refusal(
+    heap: Global,
+    text: &mut String,
+    chip: &Chip,
+    error: ConfigError,
+    fault: Fault,
+) -> Result<(), AllocError> {
     add(heap, text, "refused by ", error.number() as u64)?;
     text.push_str(", ")?;
     text.push_str(error_name(error))?;
@@ -117,26 +133,32 @@ fn add_refusal(heap: Global, text: &mut String, chip: &Chip, error: ConfigError,
 }
 
 // Adds why a chip has no such set-up.
-fn add_lack(heap: Global, text: &mut String, chip: &Chip, ask: Ask, lack: Lack) -> Result<(), AllocError> {
+fn add_lack(
+    heap: Global,
+    text: &mut String,
+    chip: &Chip,
+    ask: Ask,
+    lack: Lack,
+) -> Result<(), AllocError> {
     match lack {
         Lack::Slots => {
-            add(heap, text, "- ", ask.slots as u64)?;
-            add(heap, text, " slots, this chip has ", chip.least_slots as u64)?;
+            add(heap, text, "- slots ", ask.slots as u64)?;
+            add(heap, text, ", this chip has ", chip.least_slots as u64)?;
             if chip.most_slots > chip.least_slots {
                 add(heap, text, " to ", chip.most_slots as u64)?;
             }
             Ok(())
         }
         Lack::Bits => {
-            add(heap, text, "- ", ask.bits as u64)?;
+            add(heap, text, "- bits ", ask.bits as u64)?;
             text.push_str(if chip.eight_bits {
-                " bits, this chip has 8, 16 and 32"
+                ", this chip has 8, 16 and 32"
             } else {
-                " bits, this chip has 16 and 32"
+                ", this chip has 16 and 32"
             })
         }
         Lack::Frame(frame) => {
-            add(heap, text, "- a frame of ", frame as u64)?;
+            add(heap, text, "- frame ", frame as u64)?;
             add(heap, text, " bits, at most ", MOST_FRAME as u64)?;
             text.push_str(" is possible")
         }

@@ -32,11 +32,13 @@ module _ (l : Left) (u : ℕ) (best later : Tried) (before : Before l u best) (i
 
   pub taken : ltb (later .miss) (best .miss) ≡ true → Best l u later
   taken e =
-      subst (Best l u) (sym is)
-      (⊎-elim
-      (λ more. takes (missOf l) (u - 1) u (best .denominator) (omega arith) (before .going more .0) (omega (arith, ltb-true _ _ e, missed, before-missed more)))
-      (λ h. let two : 2 ≡ u = omega (arith, before .from) in subst (λ (n : ℕ). FirstLeast (missOf l) n n) two (begins (missOf l)))
-      (cases-lt 2 u), refl)
+      subst (Best l u) (sym is) (
+        ⊎-elim
+            (λ more. takes (missOf l) (u - 1) u (best .denominator) (omega arith) (before .going more .0) (omega (arith, ltb-true _ _ e, missed, before-missed more)))
+            (λ h. let two : 2 ≡ u = omega (arith, before .from) in subst (λ (n : ℕ). FirstLeast (missOf l) n n) two (begins (missOf l)))
+            (cases-lt 2 u),
+        refl,
+      )
 
   pub left : later .miss < 2 ^ 64 - 1 → ltb (later .miss) (best .miss) ≡ false → Best l u best
   left fits e =
@@ -61,6 +63,7 @@ exact l u max best le (h, was) e =
 pub pairs : (l : Left) (max a n : ℕ) → hasPair l max ≡ true → FirstLeast (missOf l) max a → n ≡ numeratorAt (l .decimal) a
     → PairRule l max a n × (_≡_ {A = ℕ × ℕ} (a, n) (pairOf l max))
 pairs l max a n has h is =
-    let same : a ≡ firstLeast (missOf l) max = one-only (missOf l) max a _ h (computed-least (missOf l) max (leb-true _ _ (and-parts _ _ has .1))) in
-    (record { none = λ e. absurd (both-ways _ e has); found = λ e. (h, is) },
-    ap (λ (k : ℕ). (a, k)) is ∙ ap (λ (k : ℕ). (k, numeratorAt (l .decimal) k)) same ∙ sym (cond-true (hasPair l max) _ _ has))
+    let same : a ≡ firstLeast (missOf l) max = one-only (missOf l) max a _ h (computed-least (missOf l) max (leb-true _ _ (and-parts _ _ has .1))) in (
+      record { none = λ e. absurd (both-ways _ e has); found = λ e. (h, is) },
+      ap (λ (k : ℕ). (a, k)) is ∙ ap (λ (k : ℕ). (k, numeratorAt (l .decimal) k)) same ∙ sym (cond-true (hasPair l max) _ _ has),
+    )

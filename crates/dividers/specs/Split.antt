@@ -16,7 +16,7 @@ use Rattle.dividers.specs.declared.error.ConfigError.the-variants.{ClockOutOfR
 use Rattle.dividers.specs.declared.split.I2sMclkDividers.{I2sMclkDividers}
 
 abbrev pub unsplittable : ℕ → ℕ → Bool
-unsplittable a n = ltb 0 a && ltb 0 n && leb a n
+unsplittable a n = ltb 0 a && leb a n
 
 abbrev pub aboveHalf : ℕ → ℕ → Bool
 aboveHalf a n = ltb a (2 * n)

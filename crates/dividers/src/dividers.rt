@@ -55,13 +55,22 @@ fn integer_part(mclk: u32) -> u32
     ensures { λ r. ⌜ r ≡ integerPart mclk ⌝ }
 {
     let whole = I2S_SCLK / mclk;
-    if Left::of(mclk).carries() { whole + 1 } else { whole }
+    if Left::of(mclk).carries() {
+        whole + 1
+    } else {
+        whole
+    }
 }
 
 impl I2sClockDividers {
     /// The dividers of a rate, a number of channels and a data width, with denominators up to `max`. Refused as
     /// `RateOutOfRange` where a clock would be 0 or pass 32 bits.
-    pub fn new(rate: Rate, channels: u8, data_bits: u8, max: u32) -> Result<I2sClockDividers, ConfigError>
+    pub fn new(
+        rate: Rate,
+        channels: u8,
+        data_bits: u8,
+        max: u32,
+    ) -> Result<I2sClockDividers, ConfigError>
         ensures refused { λ r. ⌜ refusedBy r ≡ refusedWhen (outOfRange (rate .0) channels «data_bits») 4 ⌝ }
         ensures rule { λ r. ⌜ Accepts r (DividersRule (rate .0) channels «data_bits» max) ⌝ }
         ensures computed { λ r. ⌜ r ≡ answerOf (rate .0) channels «data_bits» max ⌝ }
@@ -95,5 +104,10 @@ fn in_range(rate: u32, channels: u8, data_bits: u8, max: u32) -> I2sClockDivider
     let mclk_divider = integer_part(mclk);
     let bclk_divider = mclk / bclk;
     let (denominator, numerator) = Left::of(mclk).pair(max);
-    I2sClockDividers { mclk_divider, bclk_divider, denominator, numerator }
+    I2sClockDividers {
+        mclk_divider,
+        bclk_divider,
+        denominator,
+        numerator,
+    }
 }

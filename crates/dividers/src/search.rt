@@ -11,6 +11,7 @@ pub const I2S_SCLK: u32 = 160_000_000;
 
 // Decimals are counted in parts of this.
 const WHOLE_DECIMAL: u64 = 10_000;
+
 const HALF_DECIMAL: u64 = 5_000;
 
 // Above 125 / 126, which is nearer to 1 than to the largest fraction of six bits, the integer part rises by one instead.
@@ -81,7 +82,11 @@ impl Left {
         ensures { λ r. ⌜ r ≡ leftOf mclk ⌝ }
     {
         let rest = I2S_SCLK - I2S_SCLK / mclk * mclk;
-        Left { rest, mclk, decimal: rest as u64 * WHOLE_DECIMAL / mclk as u64 }
+        Left {
+            rest,
+            mclk,
+            decimal: rest as u64 * WHOLE_DECIMAL / mclk as u64,
+        }
     }
 
     // Whether the integer part rises by one in place of a fraction.

@@ -35,7 +35,7 @@ impl I2sClockDividers {
 fn cannot_be_split(denominator: u32, numerator: u32) -> bool
     ensures { λ r. ⌜ r ≡ unsplittable denominator numerator ⌝ }
 {
-    denominator > 0 && numerator > 0 && numerator >= denominator
+    denominator > 0 && numerator >= denominator
 }
 
 // The four parts of a pair below 1.
@@ -45,7 +45,12 @@ fn split_pair(denominator: u32, numerator: u32) -> I2sMclkDividers
     ensures computed { λ r. ⌜ r ≡ splitOf denominator numerator ⌝ }
 {
     if denominator == 0 || numerator == 0 {
-        return I2sMclkDividers { x: 0, y: 0, z: 0, yn1: true };
+        return I2sMclkDividers {
+            x: 0,
+            y: 0,
+            z: 0,
+            yn1: true,
+        };
     }
     if above_half(denominator, numerator) {
         counted_in(denominator, denominator - numerator, true)

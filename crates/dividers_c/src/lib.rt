@@ -37,8 +37,21 @@ pub extern "C" fn i2s_clock_dividers(rate: u32, channels: u8, data_bits: u8, max
     ensures { λ r. ⌜ r ≡ dividersInC (answerOf rate channels «data_bits» max) ⌝ }
 {
     match I2sClockDividers::new(Rate::from_hz(rate), channels, data_bits, max) {
-        Ok(I2sClockDividers { mclk_divider, bclk_divider, denominator, numerator }) => {
-            Dividers { refusal: 0, mclk_divider, bclk_divider, denominator, numerator }
+        Ok(
+            I2sClockDividers {
+                mclk_divider,
+                bclk_divider,
+                denominator,
+                numerator,
+            },
+        ) => {
+            Dividers {
+                refusal: 0,
+                mclk_divider,
+                bclk_divider,
+                denominator,
+                numerator,
+            }
         }
         Err(e) => Dividers {
             refusal: u32::from(e.number()),
@@ -55,10 +68,27 @@ pub extern "C" fn i2s_clock_dividers(rate: u32, channels: u8, data_bits: u8, max
 pub extern "C" fn i2s_mclk_dividers(denominator: u32, numerator: u32) -> MclkDividers
     ensures { λ r. ⌜ r ≡ splitInC (splitAnswer denominator numerator) ⌝ }
 {
-    let pair = I2sClockDividers { mclk_divider: 0, bclk_divider: 0, denominator, numerator };
+    let pair = I2sClockDividers {
+        mclk_divider: 0,
+        bclk_divider: 0,
+        denominator,
+        numerator,
+    };
     match pair.mclk_dividers() {
-        Ok(I2sMclkDividers { x, y, z, yn1 }) => MclkDividers { refusal: 0, x, y, z, yn1: u32::from(yn1) },
-        Err(e) => MclkDividers { refusal: u32::from(e.number()), x: 0, y: 0, z: 0, yn1: 0 },
+        Ok(I2sMclkDividers { x, y, z, yn1 }) => MclkDividers {
+            refusal: 0,
+            x,
+            y,
+            z,
+            yn1: u32::from(yn1),
+        },
+        Err(e) => MclkDividers {
+            refusal: u32::from(e.number()),
+            x: 0,
+            y: 0,
+            z: 0,
+            yn1: 0,
+        },
     }
 }
 
@@ -67,7 +97,12 @@ pub extern "C" fn i2s_mclk_dividers(denominator: u32, numerator: u32) -> MclkDiv
 pub extern "C" fn i2s_within(mclk_divider: u32, least: u32, most: u32) -> u32
     ensures { λ r. ⌜ r ≡ withinInC (withinRange «mclk_divider» least most) ⌝ }
 {
-    let dividers = I2sClockDividers { mclk_divider, bclk_divider: 0, denominator: 0, numerator: 0 };
+    let dividers = I2sClockDividers {
+        mclk_divider,
+        bclk_divider: 0,
+        denominator: 0,
+        numerator: 0,
+    };
     match dividers.within(DividerRange { least, most }) {
         Ok(()) => 0,
         Err(e) => u32::from(e.number()),

@@ -6,10 +6,12 @@ use dividers::settled_rates;
 use std::io;
 
 const STEREO: u8 = 2;
+
 const BITS: u8 = 16;
 
 // The largest denominators of the two chips.
 const ESP32_MAX: u32 = 63;
+
 const ESP32C3_MAX: u32 = 511;
 
 fn dividers_of(rate: u32, max: u32) -> Result<I2sClockDividers, ConfigError> {
@@ -18,13 +20,22 @@ fn dividers_of(rate: u32, max: u32) -> Result<I2sClockDividers, ConfigError> {
 
 fn main(rt: LibcRuntime) -> io::Result<()> {
     for rate in settled_rates() {
-        let (Ok(old), Ok(new)) = (dividers_of(rate, ESP32_MAX), dividers_of(rate, ESP32C3_MAX)) else {
+        let (Ok(old), Ok(new)) = (dividers_of(rate, ESP32_MAX), dividers_of(rate, ESP32C3_MAX))
+        else {
             continue;
         };
-        let I2sClockDividers { mclk_divider, bclk_divider, denominator, numerator } = old;
+        let I2sClockDividers {
+            mclk_divider,
+            bclk_divider,
+            denominator,
+            numerator,
+        } = old;
         let a = new.denominator;
         let n = new.numerator;
-        println!(rt, "{rate} {mclk_divider} {bclk_divider} {denominator} {numerator} {a} {n}")?;
+        println!(
+            rt,
+            "{rate} {mclk_divider} {bclk_divider} {denominator} {numerator} {a} {n}"
+        )?;
     }
     Ok(())
 }

@@ -11,7 +11,8 @@ use std::io::BufWriter;
 use std::io::Read;
 use std::io::Write;
 
-const HELP: &str = "i2s clocks [FILE]   plan the clocks of each line RATE SLOTS BITS of FILE, or of standard input:
+const HELP: &str =
+    "i2s clocks [FILE]   plan the clocks of each line RATE SLOTS BITS of FILE, or of standard input where there is none or a -:
                     the rate in hertz, the slots of a frame and the data bits of a slot;
                     blank lines and lines that begin with # pass
 i2s help            say this
@@ -36,23 +37,22 @@ fn plan_clocks(rt: &LibcRuntime, input: &[u8]) -> io::Result<()> {
     out.flush()
 }
 
-fn read_input(rt: &LibcRuntime, path: Option<String>) -> io::Result<Vec<u8>> {
-    match path {
-        Some(path) => fs::read(rt, path.as_str()),
-        None => {
-            let mut bytes = Vec::new(rt.alloc());
-            rt.stdin().read_to_end(&mut bytes)?;
-            Ok(bytes)
-        }
+// The bytes of a file, or of standard input where the path is a dash.
+fn read_input(rt: &LibcRuntime, path: &str) -> io::Result<Vec<u8>> {
+    if path != "-" {
+        return fs::read(rt, path);
     }
+    let mut bytes = Vec::new(rt.alloc());
+    rt.stdin().read_to_end(&mut bytes)?;
+    Ok(bytes)
 }
 
 // `clocks`: where the input cannot be read, that is said, and that nothing was planned.
-fn clocks(rt: &LibcRuntime, path: Option<String>) -> Result<(), AnyError> {
+fn clocks(rt: &LibcRuntime, path: &str) -> Result<(), AnyError> {
     match read_input(rt, path) {
         Ok(bytes) => Ok(plan_clocks(rt, bytes.as_slice())?),
         Err(e) => {
-            eprintln!(rt, "i2s clocks: the input cannot be read: {e}")?;
+            eprintln!(rt, "i2s clocks: '{path}' cannot be read: {e}")?;
             plan_clocks(rt, b"")?;
             Err("the input cannot be read".into())
         }
@@ -63,10 +63,13 @@ fn main(rt: LibcRuntime) -> Result<(), AnyError> {
     let mut args = env::args(&rt)?;
     let _ = args.next();
     let command = args.next();
-    let path = args.next();
+    let path = match args.next() {
+        Some(path) => path,
+        None => String::from_str(rt.alloc(), "-")?,
+    };
     let more = args.next().is_some();
     match command {
-        Some(word) if word.as_str() == "clocks" && !more => clocks(&rt, path),
+        Some(word) if word.as_str() == "clocks" && !more => clocks(&rt, path.as_str()),
         Some(word) if word.as_str() == "help" => Ok(print!(rt, "{HELP}")?),
         Some(word) if word.as_str() == "clocks" => {
             eprint!(rt, "i2s clocks: one file at most\n{HELP}")?;

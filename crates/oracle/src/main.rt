@@ -6,6 +6,7 @@ use std::io;
 
 // RATE CHANNELS BITS MAX, what the Rust did, and its numbers
 const WORDS_OF_PANIC: usize = 5;
+
 const WORDS_OF_ANSWER: usize = 13;
 
 // What a line shows of the port.
@@ -43,27 +44,51 @@ fn same_split(words: &[&str], dividers: &I2sClockDividers) -> bool {
     if *x == "-" && *y == "-" && *z == "-" && *yn1 == "-" {
         return true;
     }
-    let Ok(I2sMclkDividers { x: port_x, y: port_y, z: port_z, yn1: port_yn1 }) = dividers.mclk_dividers() else {
+    let Ok(
+        I2sMclkDividers {
+            x: port_x,
+            y: port_y,
+            z: port_z,
+            yn1: port_yn1,
+        },
+    ) = dividers.mclk_dividers()
+    else {
         return false;
     };
-    number(x) == Some(port_x) && number(y) == Some(port_y) && number(z) == Some(port_z) && number(yn1) == Some(u32::from(port_yn1))
+    number(x) == Some(port_x)
+        && number(y) == Some(port_y)
+        && number(z) == Some(port_z)
+        && number(yn1) == Some(u32::from(port_yn1))
 }
 
 fn hold_to(words: &[&str]) -> Finding {
     if words.len() < WORDS_OF_PANIC {
         return Finding::Disagrees;
     }
-    let (Some(rate), Some(channels), Some(bits), Some(max)) = (number(words[0]), byte(words[1]), byte(words[2]), number(words[3])) else {
+    let (Some(rate), Some(channels), Some(bits), Some(max)) = (
+        number(words[0]),
+        byte(words[1]),
+        byte(words[2]),
+        number(words[3]),
+    ) else {
         return Finding::Disagrees;
     };
     let answer = I2sClockDividers::new(Rate::from_hz(rate), channels, bits, max);
     let Ok(dividers) = answer else {
-        return if words[4] == "panics" { Finding::Refused } else { Finding::Disagrees };
+        return if words[4] == "panics" {
+            Finding::Refused
+        } else {
+            Finding::Disagrees
+        };
     };
-    if words.len() != WORDS_OF_ANSWER || number(words[5]) != Some(dividers.mclk_divider) || number(words[6]) != Some(dividers.bclk_divider) {
+    if words.len() != WORDS_OF_ANSWER
+        || number(words[5]) != Some(dividers.mclk_divider)
+        || number(words[6]) != Some(dividers.bclk_divider)
+    {
         return Finding::Disagrees;
     }
-    let same_pair = number(words[7]) == Some(dividers.denominator) && number(words[8]) == Some(dividers.numerator);
+    let same_pair = number(words[7]) == Some(dividers.denominator)
+        && number(words[8]) == Some(dividers.numerator);
     if words[4] == "same" && same_pair && same_split(&words[9..13], &dividers) {
         Finding::Same
     } else if words[4] == "cut" && !same_pair {
@@ -94,6 +119,9 @@ fn main(rt: LibcRuntime) -> io::Result<()> {
             }
         }
     }
-    println!(rt, "{same} the same, {better} with a better pair where products were cut, {refused} refused where the Rust panics")?;
+    println!(
+        rt,
+        "{same} the same, {better} with a better pair where products were cut, {refused} refused where the Rust panics"
+    )?;
     println!(rt, "{disagrees} disagree")
 }

@@ -30,7 +30,11 @@ impl Tally {
     pub const fn new() -> Tally
         ensures { λ r. ⌜ r ≡ nothingCounted ⌝ }
     {
-        Tally { planned: 0, refused: 0, unread: 0 }
+        Tally {
+            planned: 0,
+            refused: 0,
+            unread: 0,
+        }
     }
 
     /// Counts one line more.

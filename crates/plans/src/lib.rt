@@ -8,7 +8,6 @@ pub use counting::Outcome;
 pub use counting::Tally;
 pub use planning::Fault;
 pub use planning::Plan;
-pub use planning::any_planned;
 pub use read::Ask;
 pub use read::Number;
 pub use read::Reading;

@@ -2,10 +2,10 @@
 ghost use mathlib.Core.Path.{_≡_};
 ghost use Rattle.plans.specs.Chips.{chipsKnown};
 ghost use Rattle.plans.specs.Plans.{anyPlanned, faultOf, isPlanned, planOf, plannedOf};
+use crate::read::Ask;
 use crate::targets::Chip;
 use crate::targets::Lack;
 use crate::targets::chips;
-use crate::read::Ask;
 use dividers::ConfigError;
 use dividers::I2sClockDividers;
 use dividers::I2sMclkDividers;
@@ -74,7 +74,10 @@ impl Chip {
         }
         match dividers.mclk_dividers() {
             Ok(split) => Plan::Split(dividers, split),
-            Err(error) => Plan::Refused(error, Fault::Pair(dividers.denominator, dividers.numerator)),
+            Err(error) => Plan::Refused(
+                error,
+                Fault::Pair(dividers.denominator, dividers.numerator),
+            ),
         }
     }
 }

@@ -159,5 +159,9 @@ fn read_ask(rate: &[u8], slots: &[u8], bits: &[u8]) -> Result<Ask, Unread>
     let rate = read_number(rate, Number::Rate, u32::MAX)?;
     let slots = read_number(slots, Number::Slots, u8::MAX as u32)?;
     let bits = read_number(bits, Number::Bits, u8::MAX as u32)?;
-    Ok(Ask { rate, slots: slots as u8, bits: bits as u8 })
+    Ok(Ask {
+        rate,
+        slots: slots as u8,
+        bits: bits as u8,
+    })
 }

@@ -20,5 +20,5 @@ loop-byte-again c =
 pub returns : need.returns
 returns c =
     let whole : Counted (c .args .most) (c .loop-byte .sum) (valueOf (c .args .word .now)) =
-        subst (λ (bs : List ℕ). Counted (c .args .most) (c .loop-byte .sum) (valueOf bs)) (take-all (c .loop-byte .byte-index) (c .args .word .now) (omega arith)) (c .loop-byte .inv) in
+    subst (λ (bs : List ℕ). Counted (c .args .most) (c .loop-byte .sum) (valueOf bs)) (take-all (c .loop-byte .byte-index) (c .args .word .now) (omega arith)) (c .loop-byte .inv) in
     record { exact = exact _ _ _ whole; above = whole .small }

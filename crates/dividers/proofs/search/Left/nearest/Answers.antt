@@ -19,17 +19,18 @@ fits c =
 best-up-to : (c : Joined-is-better) → Best (c .args .self .now) (c .loop-best .trial .denominator) (c .if-is-better .best)
 best-up-to c =
     elim (c .if-is-better .came) [
-      then-is-better·else-is-exact w ↦ subst (Best _ _) (sym (w .best-is)) (taken _ _ _ _ (c .loop-best .inv .2) (c .tried-tried .ensures) (sym (w .if-is-better .ensures tt)))
-    | else-is-better w ↦ subst (Best _ _) (sym (w .best-is)) (left _ _ _ _ (c .loop-best .inv .2) (c .tried-tried .ensures) (fits c) (sym (w .if-is-better .ensures tt)))
+      | then-is-better·else-is-exact w ↦ subst (Best _ _) (sym (w .best-is)) (taken _ _ _ _ (c .loop-best .inv .2) (c .tried-tried .ensures) (sym (w .if-is-better .ensures tt)))
+      | else-is-better w ↦ subst (Best _ _) (sym (w .best-is)) (left _ _ _ _ (c .loop-best .inv .2) (c .tried-tried .ensures) (fits c) (sym (w .if-is-better .ensures tt)))
     ]
 
 pub loop-best-again : need.loop-best-again
 loop-best-again c =
     let next : c .next-trial-trial .result .denominator ≡ c .loop-best .trial .denominator + 1 = ap (λ (t : Trial). t .denominator) (c .next-trial-trial .ensures) in
-    let more = eqb-false _ _ (sym (c .if-is-last .ensures tt)) in
-    (omega (arith, more, c .loop-best .inv .0),
-    c .next-trial-trial .ensures ∙ ap (trialAt (c .args .self .now)) (sym next),
-    passes _ _ _ _ next (best-up-to (need.at·loop-best-again c .Joined-is-better)))
+    let more = eqb-false _ _ (sym (c .if-is-last .ensures tt)) in (
+      omega (arith, more, c .loop-best .inv .0),
+      c .next-trial-trial .ensures ∙ ap (trialAt (c .args .self .now)) (sym next),
+      passes _ _ _ _ next (best-up-to (need.at·loop-best-again c .Joined-is-better)),
+    )
 
 pub returns-then-is-last : need.returns-then-is-last
 returns-then-is-last c =
