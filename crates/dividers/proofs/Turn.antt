@@ -58,12 +58,3 @@ pub exact : (l : Left) (u max : ℕ) (best : Tried) → u ≤ max → Best l u b
 exact l u max best le (h, was) e =
     let none : missOf l (best .denominator) ≡ 0 = sym (ap (λ (t : Tried). t .miss) was) ∙ eqb-true _ _ e in
     (record { from = h .from; to = omega (arith, h .to); least = λ k from to. omega arith; first = h .first }, was)
-
--- the best of all denominators gives the pair, by its rule and computed
-pub pairs : (l : Left) (max a n : ℕ) → hasPair l max ≡ true → FirstLeast (missOf l) max a → n ≡ numeratorAt (l .decimal) a
-    → PairRule l max a n × (_≡_ {A = ℕ × ℕ} (a, n) (pairOf l max))
-pairs l max a n has h is =
-    let same : a ≡ firstLeast (missOf l) max = one-only (missOf l) max a _ h (computed-least (missOf l) max (leb-true _ _ (and-parts _ _ has .1))) in (
-      record { none = λ e. absurd (both-ways _ e has); found = λ e. (h, is) },
-      ap (λ (k : ℕ). (a, k)) is ∙ ap (λ (k : ℕ). (k, numeratorAt (l .decimal) k)) same ∙ sym (cond-true (hasPair l max) _ _ has),
-    )

@@ -3,6 +3,7 @@
 --     PairRule l max a n   a and n are the pair
 --     firstLeast f max     the first of 2 to max at which f is least, computed
 --     pairOf l max         the pair, computed
+--     Pair-agrees          the computed pair is the one that the rule gives, and there is no other
 use mathlib.Core.Path.{_≡_}
 use mathlib.Core.Bool.{Bool, true, false, cond, _&&_}
 use Prim.Native.Nat.{ℕ, zero, suc, _+_, _-_}
@@ -29,3 +30,8 @@ firstLeast f max = leastFrom f 2 3 (max - 2)
 abbrev pub pairOf : Left → ℕ → ℕ × ℕ
 pairOf l max =
     cond (hasPair l max) (firstLeast (missOf l) max, numeratorAt (l .decimal) (firstLeast (missOf l) max)) (0, 0)
+
+-- the rule and the computation say the same
+pub record Pair-agrees : Type 0 where
+  pub follows : (l : Left) (max : ℕ) → PairRule l max (pairOf l max .0) (pairOf l max .1)
+  pub only : (l : Left) (max a n : ℕ) → PairRule l max a n → _≡_ {A = ℕ × ℕ} (a, n) (pairOf l max)
