@@ -1,5 +1,7 @@
 //! The answer to one line, and the closing line.
 ghost use mathlib.Core.Path.{_≡_};
+ghost use Prim.Native.Nat.{_<_};
+ghost use Rattle.std.specs.Of.String.{string-len};
 ghost use Rattle.std.specs.Vec.{made};
 ghost use Rattle.plans.specs.Lines.{readingOf};
 ghost use Rattle.plans.specs.Outcomes.{outcomeOf};
@@ -41,7 +43,9 @@ pub fn answer_line(heap: Global, number: u64, line: &[u8]) -> Result<Answer, All
 }
 
 /// The closing line: how many lines there were, and what came of them.
-pub fn summary(heap: Global, tally: &Tally) -> Result<String, AllocError> {
+pub fn summary(heap: Global, tally: &Tally) -> Result<String, AllocError>
+    ensures { λ r. ⌜ made r (λ t. 0 < string-len t) ⌝ }
+{
     let lines = tally
         .planned
         .saturating_add(tally.refused)

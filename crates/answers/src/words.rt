@@ -14,7 +14,7 @@ use plans::Unread;
 use std::alloc::AllocError;
 use std::alloc::Global;
 
-pub fn chip_name(name: ChipName) -> &'static str {
+pub(crate) fn chip_name(name: ChipName) -> &'static str {
     match name {
         ChipName::Esp32 => "ESP32",
         ChipName::Esp32C3 => "ESP32-C3",
@@ -40,13 +40,13 @@ fn error_name(error: ConfigError) -> &'static str {
 }
 
 // Adds words and then a number.
-pub fn add(heap: Global, text: &mut String, words: &str, n: u64) -> Result<(), AllocError> {
+pub(crate) fn add(heap: Global, text: &mut String, words: &str, n: u64) -> Result<(), AllocError> {
     text.push_str(words)?;
     text.push_str(n.to_string(heap)?.as_str())
 }
 
 // Adds why a line is not read.
-pub fn add_cause(heap: Global, text: &mut String, unread: Unread) -> Result<(), AllocError> {
+pub(crate) fn add_cause(heap: Global, text: &mut String, unread: Unread) -> Result<(), AllocError> {
     match unread {
         Unread::Short => text.push_str("it has fewer than three words"),
         Unread::Long => text.push_str("it has more than three words"),
@@ -64,7 +64,7 @@ pub fn add_cause(heap: Global, text: &mut String, unread: Unread) -> Result<(), 
 }
 
 // Adds one chip's plan.
-pub fn add_plan(
+pub(crate) fn add_plan(
     heap: Global,
     text: &mut String,
     chip: &Chip,

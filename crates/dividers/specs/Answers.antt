@@ -1,4 +1,5 @@
 -- What `I2sClockDividers::new` and `within` answer. Assumes nothing.
+--     eightBits                         the integer parts that eight bits take
 --     refusedWhen b n                   refused by number n, carrying nothing, where b holds, and not otherwise
 --     Accepts r P                       an accepted answer has P
 --     DividersRule rate slots bits max d   d are the dividers, by their rules
@@ -12,12 +13,16 @@ use Rattle.std.specs.declared.option.Option.{Option}
 use Rattle.std.specs.declared.option.Option.the-variants.{None, Some}
 use Rattle.std.specs.declared.result.Result.{Result}
 use Rattle.std.specs.declared.result.Result.the-variants.{Ok, Err}
+use Rattle.dividers.specs.declared.dividers.DividerRange.{DividerRange}
 use Rattle.dividers.specs.declared.dividers.I2sClockDividers.{I2sClockDividers}
 use Rattle.dividers.specs.declared.error.ConfigError.{ConfigError}
 use Rattle.dividers.specs.declared.error.ConfigError.the-variants.{RateOutOfRange}
 use Rattle.dividers.specs.Clock.{mclkOf, bitDivider, outOfRange, integerPart, leftOf}
 use Rattle.dividers.specs.Pair.{PairRule, pairOf}
 use Rattle.dividers.specs.Refusals.{Refusal}
+
+abbrev pub eightBits : DividerRange
+eightBits = record { least = 1; most = 255 }
 
 abbrev pub refusedWhen : Bool → ℕ → Option Refusal
 refusedWhen b n = cond b (Some (record { number = n; carries = [] })) None

@@ -13,7 +13,7 @@ use Rattle.dividers.specs.declared.dividers.I2sClockDividers.{I2sClockDividers
 use Rattle.dividers.specs.declared.error.ConfigError.{ConfigError}
 use Rattle.dividers.specs.declared.error.ConfigError.the-variants.{ClockOutOfReach}
 use Rattle.dividers.specs.declared.split.I2sMclkDividers.{I2sMclkDividers}
-use Rattle.dividers.specs.Answers.{answerOf}
+use Rattle.dividers.specs.Answers.{answerOf, eightBits}
 use Rattle.dividers.specs.Clock.{mclkOf, integerPart, withinRange}
 use Rattle.dividers.specs.Split.{splitAnswer}
 
@@ -69,15 +69,15 @@ figureAt rate max = record {
   max = max;
   dividers = answerOf rate 2 16 max;
   split = splitAnswer (pairIn (answerOf rate 2 16 max) .0) (pairIn (answerOf rate 2 16 max) .1);
-  within = withinRange (integerPart (mclkOf rate 16)) 1 255;
+  within = withinRange (integerPart (mclkOf rate 16)) (eightBits .least) (eightBits .most);
 }
 
--- a rate, its integer part, and whether it lies from 1 to 255
+-- a rate, its integer part, and whether eight bits take it
 abbrev pub limits : List (ℕ × ℕ × Bool)
 limits = (2441, 256, false) ∷ (2442, 255, true) ∷ (629976, 1, true) ∷ (629977, 0, false) ∷ []
 
 abbrev pub limitAt : ℕ → ℕ × ℕ × Bool
-limitAt rate = (rate, integerPart (mclkOf rate 16), withinRange (integerPart (mclkOf rate 16)) 1 255)
+limitAt rate = (rate, integerPart (mclkOf rate 16), withinRange (integerPart (mclkOf rate 16)) (eightBits .least) (eightBits .most))
 
 pub record Figures-settled : Type 0 where
   pub figures-are : map (λ f. figureAt (f .rate) (f .max)) figures ≡ figures

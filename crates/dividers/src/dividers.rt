@@ -4,6 +4,7 @@ ghost use mathlib.Core.Bool.{false, not};
 ghost use Prim.Native.Nat.{_^_, _<_};
 ghost use Rattle.dividers.specs.Answers.{answerOf, dividersOf, refusedWhen, Accepts, DividersRule};
 ghost use Rattle.dividers.specs.Clock.{multipleOf, outOfRange, integerPart, withinRange};
+ghost use Rattle.dividers.specs.Answers.{eightBits};
 ghost use Rattle.dividers.specs.Refusals.{refusedBy};
 use crate::error::ConfigError;
 use crate::rate::Rate;
@@ -31,11 +32,33 @@ pub struct DividerRange {
     pub most: u32,
 }
 
-/// How many main clock ticks a sample takes: 24 bits need a multiple of three.
-pub fn mclk_multiple(data_bits: u8) -> u32
+impl DividerRange {
+    /// What an integer part of eight bits takes: 1 to 255, each stored as itself.
+    pub const fn eight_bits() -> DividerRange
+        ensures { λ r. ⌜ r ≡ eightBits ⌝ }
+    {
+        DividerRange {
+            least: 1,
+            most: 255,
+        }
+    }
+}
+
+// Main clock ticks a sample.
+const MCLK_MULTIPLE: u32 = 256;
+
+// The same at 24 data bits, which need a multiple of three.
+const MCLK_MULTIPLE_AT_24: u32 = 192;
+
+/// How many main clock ticks a sample takes.
+pub const fn mclk_multiple(data_bits: u8) -> u32
     ensures { λ r. ⌜ r ≡ multipleOf «data_bits» ⌝ }
 {
-    if data_bits == 24 { 192 } else { 256 }
+    if data_bits == 24 {
+        MCLK_MULTIPLE_AT_24
+    } else {
+        MCLK_MULTIPLE
+    }
 }
 
 // Whether a clock is 0 or passes 32 bits.

@@ -11,6 +11,7 @@ pub use dividers::I2sClockDividers;
 pub use dividers::mclk_multiple;
 pub use error::ConfigError;
 pub use error::ConfigErrorDebug;
+pub use error::ConfigErrorPartialEq;
 pub use figures::settled_rates;
 pub use rate::Rate;
 pub use split::I2sMclkDividers;

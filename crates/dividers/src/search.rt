@@ -6,7 +6,7 @@ ghost use Rattle.dividers.specs.Pair.{PairRule, hasPair, pairOf};
 ghost use Rattle.dividers.specs.Search.{FirstLeast, missOf, numeratorAt, trialAt, triedAt};
 ghost use Rattle.dividers.specs.Clock.{leftOf};
 
-/// The source clock of both chips, in hertz.
+/// The source clock, in hertz.
 pub const I2S_SCLK: u32 = 160_000_000;
 
 // Decimals are counted in parts of this.
@@ -77,7 +77,7 @@ impl Tried {
 
 impl Left {
     // What the integer part of I2S_SCLK / mclk leaves.
-    pub fn of(mclk: u32) -> Left
+    pub(crate) fn of(mclk: u32) -> Left
         requires { ⌜ 0 < mclk ⌝ }
         ensures { λ r. ⌜ r ≡ leftOf mclk ⌝ }
     {
@@ -90,7 +90,7 @@ impl Left {
     }
 
     // Whether the integer part rises by one in place of a fraction.
-    pub fn carries(&self) -> bool
+    pub(crate) fn carries(&self) -> bool
         ensures { λ r. ⌜ r ≡ ltb 9920 (now (self .entry) .decimal) ⌝ }
     {
         self.decimal > CARRY_ABOVE
@@ -179,7 +179,7 @@ impl Left {
     }
 
     // The pair of denominator and numerator, 0 and 0 where there is none.
-    pub fn pair(&self, max: u32) -> (u32, u32)
+    pub(crate) fn pair(&self, max: u32) -> (u32, u32)
         requires rest { ⌜ now self .rest < 2 ^ 32 ⌝ }
         requires mclk { ⌜ now self .mclk < 2 ^ 32 ⌝ }
         ensures rule { λ p. ⌜ PairRule (now (self .entry)) max (p .0) (p .1) ⌝ }

@@ -7,20 +7,17 @@ use Prim.Native.Nat.{ℕ, _*_}
 use lib.Dec.{ltb, eqb}
 use Rattle.std.specs.declared.option.Option.{Option}
 use Rattle.std.specs.declared.option.Option.the-variants.{None, Some}
-use Rattle.dividers.specs.declared.dividers.DividerRange.{DividerRange}
+use Rattle.dividers.specs.Answers.{eightBits}
 use Rattle.plans.specs.declared.targets.Chip.{Chip}
 use Rattle.plans.specs.declared.targets.ChipName.the-variants.{Esp32, Esp32C3}
 use Rattle.plans.specs.declared.targets.Lack.{Lack}
 use Rattle.plans.specs.declared.targets.Lack.the-variants.{Slots, Bits, Frame}
 use Rattle.plans.specs.declared.read.Ask.{Ask}
 
-abbrev range : DividerRange
-range = record { least = 1; most = 255 }
-
 abbrev pub chipsKnown : List Chip
 chipsKnown =
-    record { name = Esp32; max = 63; range = range; splits = false; «least_slots» = 2; «most_slots» = 2; «eight_bits» = false }
-    ∷ record { name = Esp32C3; max = 511; range = range; splits = true; «least_slots» = 1; «most_slots» = 16; «eight_bits» = true }
+    record { name = Esp32; max = 63; range = eightBits; splits = false; «least_slots» = 2; «most_slots» = 2; «eight_bits» = false }
+    ∷ record { name = Esp32C3; max = 511; range = eightBits; splits = true; «least_slots» = 1; «most_slots» = 16; «eight_bits» = true }
     ∷ []
 
 abbrev pub hasSlots : Chip → ℕ → Bool

@@ -94,8 +94,8 @@ fn clock_fault(ask: Ask) -> Fault
     Fault::Clock(mclk.max(bclk))
 }
 
-/// Whether some chip has a plan.
-pub fn any_planned(ask: Ask) -> bool
+// Whether some chip has a plan.
+pub(crate) fn any_planned(ask: Ask) -> bool
     ensures { λ r. ⌜ r ≡ anyPlanned chipsKnown ask ⌝ }
 {
     let known = chips();

@@ -44,10 +44,7 @@ pub const MOST_FRAME: u32 = 128;
 pub fn chips() -> [Chip; 2]
     ensures { λ r. ⌜ r ≡ chipsKnown ⌝ }
 {
-    let range = DividerRange {
-        least: 1,
-        most: 255,
-    };
+    let range = DividerRange::eight_bits();
     [
         Chip {
             name: ChipName::Esp32,
