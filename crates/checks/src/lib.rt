@@ -24,7 +24,16 @@ mod tests {
 
     #[test]
     fn dividers_are_found() -> Result<(), Fail> {
-        for [rate, channels, bits, max, integer, bit, denominator, numerator] in ANSWERS {
+        for [
+            rate,
+            channels,
+            bits,
+            max,
+            integer,
+            bit,
+            denominator,
+            numerator,
+        ] in ANSWERS {
             let channels = u8::try_from(channels)?;
             let bits = u8::try_from(bits)?;
             let d = I2sClockDividers::new(Rate::from_hz(rate), channels, bits, max)?;
@@ -66,7 +75,8 @@ mod tests {
         }
     }
 
-    const UNREAD: &str = "line 7 is not read: the rate is above 4294967295; RATE SLOTS BITS is expected, and this is \"4294967296 2 16\"\n";
+    const UNREAD: &str =
+        "line 7 is not read: the rate is above 4294967295; RATE SLOTS BITS is expected, and this is \"4294967296 2 16\"\n";
 
     #[test]
     fn lines_are_answered_and_counted(rt: LibcRuntime) -> Result<(), Fail> {
@@ -78,6 +88,9 @@ mod tests {
         let unread = answer_line(heap, 7, b"4294967296 2 16")?;
         check_eq(unread.text.as_str(), UNREAD)?;
         tally.count(unread.outcome);
-        check_eq(summary(heap, &tally)?.as_str(), "3 lines: 1 planned, 1 refused, 1 not read\n")
+        check_eq(
+            summary(heap, &tally)?.as_str(),
+            "3 lines: 1 planned, 1 refused, 1 not read\n",
+        )
     }
 }

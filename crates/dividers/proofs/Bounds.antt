@@ -1,14 +1,20 @@
 -- Bounds on what one trial computes. Assumes nothing.
+use mathlib.Core.Path.{_≡_}
 use Prim.Native.Nat.{ℕ, _+_, _-_, _*_, _/_, _^_, _≤_, _<_}
 use native.Mathlib.Omega.{arith}
-use native.Mathlib.Nat.{mul-le-mul-left}
+use native.Mathlib.Nat.{mul-le-mul-left, div-eq-of-lt-le}
 use Rattle.std.proofs.shelf.Bits.{mul-le}
 use Rattle.dividers.specs.declared.search.Left.{Left}
 use Rattle.dividers.specs.Search.{missOf, numeratorAt}
+use Rattle.dividers.specs.Trials.{tenThousandth}
 
 -- a numerator is at most its denominator
 pub numerator-le : (a d : ℕ) → d ≤ 9920 → numeratorAt d a ≤ a
 numerator-le a d h = omega (arith, mul-le-mul-left a h)
+
+-- x / 10000 is the upper half of x ten thousandths of 2 ^ 64
+pub upper-half : (x : ℕ) → x < 2 ^ 50 → x * tenThousandth / 2 ^ 64 ≡ x / 10000
+upper-half x small = div-eq-of-lt-le (2 ^ 64) (omega arith) (omega arith)
 
 -- a product of two numbers of 32 bits
 pub wide : (a b : ℕ) → a < 2 ^ 32 → b < 2 ^ 32 → a * b < 2 ^ 64 - 1

@@ -3,13 +3,11 @@
 --     apart x y            how far apart two numbers are
 --     missWith l a n       by how much a denominator a misses with a numerator n
 --     missOf l a           and with its own
---     trialAt l a          denominator, and the two products that the next ones are
 --     triedAt l a          denominator and miss
 --     FirstLeast f max a   of 2 to max, a is the first at which f is least
 use mathlib.Core.Path.{_≡_}
 use Prim.Native.Nat.{ℕ, _+_, _-_, _*_, _/_, _≤_, _<_}
 use Rattle.dividers.specs.declared.search.Left.{Left}
-use Rattle.dividers.specs.declared.search.Trial.{Trial}
 use Rattle.dividers.specs.declared.search.Tried.{Tried}
 
 abbrev pub numeratorAt : ℕ → ℕ → ℕ
@@ -23,9 +21,6 @@ missWith l a n = apart (l .rest * a) (l .mclk * n)
 
 abbrev pub missOf : Left → ℕ → ℕ
 missOf l a = missWith l a (numeratorAt (l .decimal) a)
-
-abbrev pub trialAt : Left → ℕ → Trial
-trialAt l a = record { denominator = a; ahead = l .rest * a; scaled = a * l .decimal + 5000 }
 
 abbrev pub triedAt : Left → ℕ → Tried
 triedAt l a = record { denominator = a; miss = missOf l a }

@@ -3,7 +3,8 @@ ghost use mathlib.Core.Path.{_≡_};
 ghost use Prim.Native.Nat.{_+_, _^_, _≤_, _<_};
 ghost use lib.Dec.{eqb, ltb};
 ghost use Rattle.dividers.specs.Pair.{PairRule, hasPair, pairOf};
-ghost use Rattle.dividers.specs.Search.{FirstLeast, missOf, numeratorAt, trialAt, triedAt};
+ghost use Rattle.dividers.specs.Search.{FirstLeast, missOf, numeratorAt, triedAt};
+ghost use Rattle.dividers.specs.Trials.{trialAt};
 ghost use Rattle.dividers.specs.Clock.{leftOf};
 
 /// The source clock, in hertz.
@@ -27,15 +28,19 @@ pub struct Left {
     pub decimal: u64,
 }
 
-// A denominator on trial. The two products are kept as sums, since a search forms them hundreds of times.
+// A denominator on trial. Both products are kept as sums, since a search forms them hundreds of times, and the second so
+// that no division is left: the upper half of x × TEN_THOUSANDTH is x / 10,000, cut, for every x below 2^50.
 #[derive(Clone, Copy)]
 pub struct Trial {
     pub denominator: u64,
     // rest × denominator
     pub ahead: u64,
-    // decimal × denominator, and a half
-    pub scaled: u64,
+    // (decimal × denominator, and a half) × TEN_THOUSANDTH
+    pub scaled: u128,
 }
+
+// 2^64 / 10,000, rounded up.
+const TEN_THOUSANDTH: u128 = 1_844_674_407_370_956;
 
 // A denominator, and by how much it misses with its numerator: |rest × denominator − mclk × numerator|.
 #[derive(Clone, Copy)]
@@ -104,7 +109,7 @@ impl Left {
         Trial {
             denominator: LEAST_DENOMINATOR,
             ahead: self.rest as u64 * LEAST_DENOMINATOR,
-            scaled: self.decimal * LEAST_DENOMINATOR + HALF_DECIMAL,
+            scaled: (self.decimal * LEAST_DENOMINATOR + HALF_DECIMAL) as u128 * TEN_THOUSANDTH,
         }
     }
 
@@ -118,18 +123,29 @@ impl Left {
         Trial {
             denominator: trial.denominator + 1,
             ahead: trial.ahead + self.rest as u64,
-            scaled: trial.scaled + self.decimal,
+            scaled: trial.scaled + self.decimal as u128 * TEN_THOUSANDTH,
         }
     }
 
-    // The denominator on trial, with the numerator nearest to its share of the decimal.
+    // The numerator nearest to the share of the decimal that the denominator on trial has.
+    fn numerator_on(&self, trial: Trial) -> u64
+        requires small { ⌜ now self .decimal ≤ 9920 ⌝ }
+        requires below { ⌜ trial .denominator < 2 ^ 32 ⌝ }
+        requires on_trial { ⌜ trial ≡ trialAt (now self) (trial .denominator) ⌝ }
+        ensures value { λ r. ⌜ r ≡ numeratorAt (now (self .entry) .decimal) (trial .denominator) ⌝ }
+        ensures below { λ r. ⌜ r < 2 ^ 32 ⌝ }
+    {
+        (trial.scaled >> 64) as u64
+    }
+
+    // The denominator on trial, with its numerator.
     fn tried(&self, trial: Trial) -> Tried
         requires small { ⌜ now self .decimal ≤ 9920 ⌝ }
         requires below { ⌜ trial .denominator < 2 ^ 32 ⌝ }
         requires on_trial { ⌜ trial ≡ trialAt (now self) (trial .denominator) ⌝ }
         ensures { λ r. ⌜ r ≡ triedAt (now (self .entry)) (trial .denominator) ⌝ }
     {
-        let numerator = trial.scaled / WHOLE_DECIMAL;
+        let numerator = self.numerator_on(trial);
         Tried {
             denominator: trial.denominator,
             miss: trial.ahead.abs_diff(self.mclk as u64 * numerator),

@@ -4,7 +4,7 @@ use native.Mathlib.Omega.{arith}
 use Rattle.std.proofs.shelf.Tests.{eqb-true, eqb-false}
 use Rattle.dividers.specs.declared.search.Trial.{Trial}
 use Rattle.dividers.specs.declared.search.Tried.{Tried}
-use Rattle.dividers.specs.Search.{trialAt}
+use Rattle.dividers.specs.Trials.{trialAt}
 use Rattle.dividers.proofs.Bounds.{miss-fits}
 use Rattle.dividers.proofs.Turn.{Best, taken, left, passes, exact}
 use Rattle.dividers.proofs.search.Left.nearest.Needs as need

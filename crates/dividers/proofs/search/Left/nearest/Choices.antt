@@ -1,6 +1,6 @@
 use mathlib.Core.Path.{_≡_}
 use Prim.Native.Nat.{_-_, _≤_}
-use Rattle.dividers.specs.Search.{trialAt}
+use Rattle.dividers.specs.Trials.{trialAt}
 use Rattle.dividers.proofs.Turn.{Before}
 use Rattle.dividers.proofs.search.Left.nearest.Given as given
 
