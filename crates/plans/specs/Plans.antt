@@ -2,9 +2,12 @@
 --     planOf chip ask       dividers that the chip takes, or the refusal and what is out of range, or what it lacks
 --     plannedOf chip d      the plan of dividers: the integer part within the chip's, and the pair split where it stores it so
 --     faultOf ask           which clock is out of range
+--     Says chip ask plan    what a plan says: that its dividers are those of what is asked and the chip takes them, or what
+--                           is out of range, or what the chip lacks
 --     isPlanned plan        whether there are dividers
 --     anyPlanned chips ask  whether one of the chips has some
-use mathlib.Core.Bool.{Bool, true, false, cond, not, _||_}
+use mathlib.Core.Path.{_≡_}
+use mathlib.Core.Bool.{Bool, true, false, cond, _||_}
 use mathlib.Core.List.{List, [], _∷_}
 use Prim.Native.Nat.{ℕ, max}
 use lib.Dec.{eqb}
@@ -52,6 +55,32 @@ chipPlan chip ask None = clockPlan chip ask (answerOf (ask .rate) (ask .slots) (
 
 abbrev pub planOf : Chip → Ask → Plan
 planOf chip ask = chipPlan chip ask (lackOf chip ask)
+
+-- dividers of what is asked, which the chip takes
+pub record Divides (chip : Chip) (ask : Ask) (d : I2sClockDividers) : Type 0 where
+  pub set-up : lackOf chip ask ≡ None
+  pub dividers : answerOf (ask .rate) (ask .slots) (ask .bits) (chip .max) ≡ Ok d
+  pub within : withinRange (d .«mclk_divider») (chip .range .least) (chip .range .most) ≡ true
+
+-- a refusal, and what is out of range
+abbrev pub Blames : Chip → Ask → ConfigError → Fault → Type 0
+Blames chip ask e NoRate = (answerOf (ask .rate) (ask .slots) (ask .bits) (chip .max) ≡ Err e) × (ask .rate ≡ 0)
+Blames chip ask e (Clock hertz) =
+    (answerOf (ask .rate) (ask .slots) (ask .bits) (chip .max) ≡ Err e)
+    × (hertz ≡ max (mclkOf (ask .rate) (ask .bits)) (bclkOf (ask .rate) (ask .slots) (ask .bits)))
+Blames chip ask e (IntegerPart n) =
+    (d : I2sClockDividers) × (answerOf (ask .rate) (ask .slots) (ask .bits) (chip .max) ≡ Ok d) × (n ≡ d .«mclk_divider»)
+    × (withinRange n (chip .range .least) (chip .range .most) ≡ false) × (e ≡ ClockOutOfReach)
+Blames chip ask e (Pair a n) =
+    (d : I2sClockDividers) × Divides chip ask d × (chip .splits ≡ true) × (a ≡ d .denominator) × (n ≡ d .numerator)
+    × (splitAnswer a n ≡ Err e)
+
+-- what a plan says of the chip and of what is asked
+abbrev pub Says : Chip → Ask → Plan → Type 0
+Says chip ask (Whole d) = Divides chip ask d × (chip .splits ≡ false)
+Says chip ask (Split d s) = Divides chip ask d × (chip .splits ≡ true) × (splitAnswer (d .denominator) (d .numerator) ≡ Ok s)
+Says chip ask (Refused e f) = (lackOf chip ask ≡ None) × Blames chip ask e f
+Says chip ask (NoSetUp l) = lackOf chip ask ≡ Some l
 
 abbrev pub isPlanned : Plan → Bool
 isPlanned (Whole d) = true

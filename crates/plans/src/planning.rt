@@ -1,7 +1,7 @@
 //! The plan of one chip for one rate, slot count and data width.
 ghost use mathlib.Core.Path.{_≡_};
 ghost use Rattle.plans.specs.Chips.{chipsKnown};
-ghost use Rattle.plans.specs.Plans.{anyPlanned, faultOf, isPlanned, planOf, plannedOf};
+ghost use Rattle.plans.specs.Plans.{Says, anyPlanned, faultOf, isPlanned, planOf, plannedOf};
 use crate::read::Ask;
 use crate::targets::Chip;
 use crate::targets::Lack;
@@ -51,6 +51,14 @@ impl Plan {
 impl Chip {
     /// The chip's plan.
     pub fn plan(&self, ask: Ask) -> Plan
+        ensures says { λ r. ⌜ Says (now (self .entry)) ask r ⌝ }
+        ensures computed { λ r. ⌜ r ≡ planOf (now (self .entry)) ask ⌝ }
+    {
+        self.plan_for(ask)
+    }
+
+    // The plan, step by step.
+    fn plan_for(&self, ask: Ask) -> Plan
         ensures { λ r. ⌜ r ≡ planOf (now (self .entry)) ask ⌝ }
     {
         if let Some(lack) = self.lacks(ask) {

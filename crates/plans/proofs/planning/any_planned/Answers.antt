@@ -13,12 +13,12 @@ loop-chip-holds c = ap (λ (cs : List Chip). anyPlanned cs (c .args .ask)) (c .c
 pub returns-then-is-planned : need.returns-then-is-planned
 returns-then-is-planned c =
     let all = ap length (c .chips-known .ensures) in
-    sym (here (c .chips-known .result) _ _ _ _ (omega arith) (c .plan .ensures) (c .if-is-planned .ensures tt)) ∙ c .loop-chip .inv
+    sym (here (c .chips-known .result) _ _ _ _ (omega arith) (c .plan .ensures .computed) (c .if-is-planned .ensures tt)) ∙ c .loop-chip .inv
 
 pub loop-chip-again : need.loop-chip-again
 loop-chip-again c =
     let all = ap length (c .chips-known .ensures) in
-    further (c .chips-known .result) _ _ _ _ (omega arith) (c .plan .ensures) (c .if-is-planned .ensures tt) ∙ c .loop-chip .inv
+    further (c .chips-known .result) _ _ _ _ (omega arith) (c .plan .ensures .computed) (c .if-is-planned .ensures tt) ∙ c .loop-chip .inv
 
 pub returns : need.returns
 returns c =
