@@ -33,8 +33,8 @@ module _ (chip : Chip) (ask : Ask) where
   planned-says d none e =
       cond-both (withinRange (d .«mclk_divider») (chip .range .least) (chip .range .most)) _ _ (Says chip ask)
       (λ within.
-          let h : Divides chip ask d = record { set-up = none; dividers = e; within = within } in
-          cond-both (chip .splits) _ _ (Says chip ask) (λ splits. split-says d h splits _ refl) (λ whole. (h, whole)))
+      let h : Divides chip ask d = record { set-up = none; dividers = e; within = within } in
+      cond-both (chip .splits) _ _ (Says chip ask) (λ splits. split-says d h splits _ refl) (λ whole. (h, whole)))
       (λ outside. (none, (d, e, refl, outside, refl)))
 
   clock-says : lackOf chip ask ≡ None → (r : Result I2sClockDividers ConfigError) → answerOf (ask .rate) (ask .slots) (ask .bits) (chip .max) ≡ r

@@ -7,12 +7,15 @@
 --     numberOf bs what most     a word as a number of at most `most`
 --     askOf rate slots bits     the three numbers, or the first that is none
 --     readingOf line            what a line is
+--     ReadsWritten line r       what is written as three numbers is read as them
+use mathlib.Core.Path.{_≡_}
 use mathlib.Core.Bool.{Bool, true, false, cond, not, _&&_, _||_}
-use mathlib.Core.List.{List, [], _∷_}
-use Prim.Native.Nat.{ℕ, _+_, _-_, _*_, _^_}
+use mathlib.Core.List.{List, [], _∷_, _++_}
+use Prim.Native.Nat.{ℕ, _+_, _-_, _*_, _^_, _<_}
 use lib.Dec.{leb, ltb, eqb}
 use lib.ListN.{length, getD, take, drop}
 use Rattle.std.specs.Iters.{folded}
+use Rattle.std.specs.Written.{decimal}
 use Rattle.std.specs.shelf.Lists.{leading}
 use Rattle.std.specs.declared.result.Result.{Result}
 use Rattle.std.specs.declared.result.Result.the-variants.{Ok, Err}
@@ -74,14 +77,14 @@ abbrev askedSlots : ℕ → Result ℕ Unread → Result ℕ Unread → Result A
 askedSlots rate (Ok slots) bits = asked rate slots bits
 askedSlots rate (Err e) bits = Err e
 
-abbrev askedRate : Result ℕ Unread → Result ℕ Unread → Result ℕ Unread → Result Ask Unread
+abbrev pub askedRate : Result ℕ Unread → Result ℕ Unread → Result ℕ Unread → Result Ask Unread
 askedRate (Ok rate) slots bits = askedSlots rate slots bits
 askedRate (Err e) slots bits = Err e
 
 abbrev pub askOf : List ℕ → List ℕ → List ℕ → Result Ask Unread
 askOf rate slots bits = askedRate (numberOf rate Rate (2 ^ 32 - 1)) (numberOf slots Slots 255) (numberOf bits Bits 255)
 
-abbrev readAs : Result Ask Unread → Reading
+abbrev pub readAs : Result Ask Unread → Reading
 readAs (Ok ask) = Plan ask
 readAs (Err e) = Not e
 
@@ -95,9 +98,19 @@ thirdWord line = wordIn (pastWord (pastWord line))
 abbrev pub fourthWord : List ℕ → List ℕ
 fourthWord line = wordIn (pastWord (pastWord (pastWord line)))
 
--- blank, or a remark: nothing; else three words that are numbers, and no fourth
+-- by its first four words: blank, or a remark: nothing; else three numbers, and no fourth word
+abbrev pub readingBy : List ℕ → List ℕ → List ℕ → List ℕ → Reading
+readingBy first second third fourth =
+    cond (isEmpty first || eqb (getD first 0 0) 35) Nothing
+    (cond (isEmpty third) (Not Short) (cond (isEmpty fourth) (readAs (askOf first second third)) (Not Long)))
+
 abbrev pub readingOf : List ℕ → Reading
-readingOf line =
-    cond (isEmpty (wordIn line) || eqb (getD (wordIn line) 0 0) 35) Nothing
-    (cond (isEmpty (thirdWord line)) (Not Short)
-    (cond (isEmpty (fourthWord line)) (readAs (askOf (wordIn line) (secondWord line) (thirdWord line))) (Not Long)))
+readingOf line = readingBy (wordIn line) (secondWord line) (thirdWord line) (fourthWord line)
+
+-- three numbers in decimal, with a space between them
+abbrev pub written : Ask → List ℕ
+written ask = decimal (ask .rate) ++ (32 ∷ (decimal (ask .slots) ++ (32 ∷ decimal (ask .bits))))
+
+-- such a line is read as these numbers
+abbrev pub ReadsWritten : List ℕ → Reading → Type 0
+ReadsWritten line r = (ask : Ask) → ask .rate < 2 ^ 32 → ask .slots < 2 ^ 8 → ask .bits < 2 ^ 8 → line ≡ written ask → r ≡ Plan ask

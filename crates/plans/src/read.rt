@@ -2,7 +2,7 @@
 ghost use mathlib.Core.Path.{_≡_};
 ghost use Prim.Native.Nat.{_≤_};
 ghost use lib.ListN.{length};
-ghost use Rattle.plans.specs.Lines.{askOf, isOf, leadingOf, lineIn, numberOf, pastLine, pastWord, readingOf, valueOf, wordIn};
+ghost use Rattle.plans.specs.Lines.{ReadsWritten, askOf, isOf, leadingOf, lineIn, numberOf, pastLine, pastWord, readingOf, valueOf, wordIn};
 
 /// A rate in hertz, a number of slots and a number of data bits.
 #[derive(Clone, Copy)]
@@ -131,6 +131,14 @@ pub fn first_line(text: &[u8]) -> (&[u8], &[u8])
 
 /// What a line is, by its words.
 pub fn read_line(line: &[u8]) -> Reading
+    ensures written { λ r. ⌜ ReadsWritten (now (line .entry)) r ⌝ }
+    ensures computed { λ r. ⌜ r ≡ readingOf (now (line .entry)) ⌝ }
+{
+    read_words(line)
+}
+
+// The same, word by word.
+fn read_words(line: &[u8]) -> Reading
     ensures { λ r. ⌜ r ≡ readingOf (now (line .entry)) ⌝ }
 {
     let (rate, rest) = first_word(line);
