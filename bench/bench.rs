@@ -80,10 +80,12 @@ fn rounds_for(chip: Chip, rates: &[u32]) -> usize {
 fn rust_turn(chip: Chip, rates: &[u32], rounds: usize) -> f64 {
     match chip {
         Chip::Old => turn(rates, rounds, |rate| {
-            old_unchecked::Window::clock_dividers(rate, black_box(CHANNELS), black_box(BITS))
+            let rate = old_unchecked::time::Rate::from_hz(rate);
+            (old_unchecked::Window::NEW)(rate, black_box(CHANNELS), black_box(BITS))
         }),
         Chip::New => turn(rates, rounds, |rate| {
-            new_unchecked::Window::clock_dividers(rate, black_box(CHANNELS), black_box(BITS))
+            let rate = new_unchecked::time::Rate::from_hz(rate);
+            (new_unchecked::Window::NEW)(rate, black_box(CHANNELS), black_box(BITS))
         }),
     }
 }
