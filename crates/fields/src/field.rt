@@ -1,10 +1,10 @@
 //! Any field of a block: its place, width, kind and half.
-ghost use Rattle.std.specs.Prelude.{◌≡◌, ◌<◌, ◌≤◌, Decides, ◌==◌};
+ghost use Rattle.std.specs.Prelude.{◌≡◌, ◌<◌, ◌≤◌, Decides, ◌==◌, nat_eq};
 ghost use Rattle.fields.specs.Names.{half_named, width_named, kind_named};
 ghost use Rattle.fields.specs.Table.{row_of, place_of, width_of, kind_of, half_of, NoPlaceTwice};
 ghost use Rattle.std.specs.Cmp.Rules.{comparing};
 ghost use Rattle.std.proofs.Common.{rules};
-ghost use Rattle.std.specs.Cmp as Keys;
+ghost use Rattle.std.specs.Ordering.{on};
 
 use crate::common::CommonField;
 use crate::receive::RxField;
@@ -80,11 +80,14 @@ impl Field {
 }
 
 impl PartialEq for Field {
-    ghost equals = { λ f g r. Decides r (f ≡ g) };
+    ghost eq = { on place_of nat_eq };
 
-    ghost laws = { Keys.partial_equiv_from_equiv (Prim.search (comparing, rules)) };
+    ghost laws = { Prim.search (comparing, rules) };
 
-    fn eq(&self, other: &Field) -> bool {
+    fn eq(&self, other: &Field) -> bool
+        ensures place { result ≡ on place_of nat_eq self.now other.now }
+        ensures decides { Decides result (self.now ≡ other.now) }
+    {
         at_one_place(*self, *other)
     }
 }

@@ -7,15 +7,15 @@ use Rattle.plans.proofs.planning.any_planned.Goals as goal
 pub loop-chip-init : goal.loop-chip-init
 loop-chip-init c = ap (λ (cs : List Chip). any_planned cs c.args.ask) c.chips-known.ensures
 
-pub returns-then-is-planned : goal.returns-then-is-planned
-returns-then-is-planned c =
+pub returns-then-is_planned : goal.returns-then-is_planned
+returns-then-is_planned c =
     let all = ap length c.chips-known.ensures in
-    sym (here c.chips-known.result _ _ _ _ (omega arith) c.plan.ensures.computed c.if-is-planned.ensures) ∙ c.loop-chip.invariant
+    sym (here c.chips-known.result _ _ _ _ (omega arith) c.plan.ensures.computed c.if-is_planned.ensures) ∙ c.loop-chip.invariant
 
 pub loop-chip-preserved : goal.loop-chip-preserved
 loop-chip-preserved c =
     let all = ap length c.chips-known.ensures in
-    further c.chips-known.result _ _ _ _ (omega arith) c.plan.ensures.computed c.if-is-planned.ensures ∙ c.loop-chip.invariant
+    further c.chips-known.result _ _ _ _ (omega arith) c.plan.ensures.computed c.if-is_planned.ensures ∙ c.loop-chip.invariant
 
 pub returns : goal.returns
 returns c =

@@ -5,4 +5,4 @@ use Rattle.plans.proofs.read.read_line.Goals as goal
 
 pub returns : goal.returns
 returns c =
-    record { written = subst (ReadsWritten c.args.line.now) (sym c.read-words.ensures) (reads_written c.args.line.now); computed = c.read-words.ensures }
+    record { written = subst (ReadsWritten c.args.line.now) (sym c.read_words.ensures) (reads_written c.args.line.now); computed = c.read_words.ensures }

@@ -9,7 +9,7 @@ pub loop-byte-preserved : goal.loop-byte-preserved
 loop-byte-preserved c =
     goes_on _ c.loop-byte.sum _ (get_or c.args.word.now c.loop-byte.byte-index 0 - 48) _ _ c.loop-byte.invariant
     (fold_more (λ n b. n * 10 + (b - 48)) 0 c.args.word.now c.loop-byte.byte-index 0 c.loop-byte-test.true)
-    (elim c.if-sum-most.branch [ then-sum-most w ↦ inl (w.if-sum-most.true, omega (arith, w.sum-is, w.saturating-sub.ensures)) | else-sum-most w ↦ inr (w.if-sum-most.false, w.sum-is) ])
+    (elim c.if-sum-most.branch [ then-sum-most w ↦ inl (w.if-sum-most.true, omega (arith, w.sum-is, w.saturating_sub.ensures)) | else-sum-most w ↦ inr (w.if-sum-most.false, w.sum-is) ])
 
 pub returns : goal.returns
 returns c =

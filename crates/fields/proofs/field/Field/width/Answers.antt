@@ -4,7 +4,7 @@ use Rattle.fields.proofs.field.Field.width.Goals as goal
 
 pub returns : goal.returns
 returns c =
-    let e = c.width-of.ensures in
+    let e = c.width_of.ensures in
     let fits = width_fits c.args.self in
     record {
       width = e;
