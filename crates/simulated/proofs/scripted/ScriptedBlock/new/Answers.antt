@@ -4,10 +4,10 @@ use Rattle.simulated.proofs.scripted.ScriptedBlock.new.Goals as goal
 
 pub returns : goal.returns
 returns c =
-    let b = c.by-rows.result in
-    let e = c.by-rows.ensures in
+    let b = c.by_rows.result in
+    let e = c.by_rows.ensures in
     record {
-      tx = tx_made b.plain e.made (comes b.tx_script) (script_of c.args.tx-rows.now) e.tx;
-      rx = rx_made b.plain e.made (comes b.rx_script) (script_of c.args.rx-rows.now) e.rx;
+      tx = tx_made b.plain e.made (comes b.tx_script) (script_of c.args.tx_rows.now) e.tx;
+      rx = rx_made b.plain e.made (comes b.rx_script) (script_of c.args.rx_rows.now) e.rx;
       common = common_made b.plain e.made;
     }

@@ -17,11 +17,11 @@ returns c =
       tx =
           tx_put f v _ _ e.sized e.table p.tx _ tx _
           (e.tx ∙ ap (λ d. marks_after tx_row (in_tx f) v d p.tx) c.peek.ensures)
-          (c.advance.ensures ∙ ap (λ b. later b tx) c.draws-tx.ensures);
+          (c.advance.ensures ∙ ap (λ b. later b tx) c.draws_tx.ensures);
       rx =
           rx_put f v _ _ e.sized e.table p.rx _ rx _
           (e.rx ∙ ap (λ d. marks_after rx_row (in_rx f) v d p.rx) c.peek-2.ensures)
-          (c.advance-2.ensures ∙ ap (λ b. later b rx) c.draws-rx.ensures);
+          (c.advance-2.ensures ∙ ap (λ b. later b rx) c.draws_rx.ensures);
       common = common_put f v _ _ e.sized e.table;
       unused = unused_kept f v _ _ e.sized e.table;
     }

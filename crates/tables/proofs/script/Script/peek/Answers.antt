@@ -6,4 +6,4 @@ pub returns-then-self : goal.returns-then-self
 returns-then-self c = rw add-zero (get_or_default _ _ _ _ c.if-self.true)
 
 pub returns-else-self : goal.returns-else-self
-returns-else-self c = rw add-zero (c.after-the-last.ensures ∙ sym (get_or_past _ _ _ c.if-self.false))
+returns-else-self c = rw add-zero (c.after_the_last.ensures ∙ sym (get_or_past _ _ _ c.if-self.false))
