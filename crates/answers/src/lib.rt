@@ -1,4 +1,6 @@
 //! Answers in words to lines that ask for plans.
+#![tactic(auto)]
+
 mod answer;
 mod words;
 

@@ -2,7 +2,7 @@
 --     PutsReadBack  after a put the field reads as what was stored, and every other field as before
 --     Started h g   the half g is what a start leaves of the half h
 --     StartsLeave   every put that starts a half leaves it so, also where it was busy
-use Rattle.std.specs.Prelude.{◌≡◌, ℕ, suc, ◌%◌, ◌^◌, true, ◌≢◌}
+use Rattle.std.specs.Prelude.{◌≡◌, ℕ, suc, true, ◌≢◌}
 use Rattle.fields.specs.declared.CommonField.{CommonField}
 use Rattle.fields.specs.declared.Field.{Field}
 use Rattle.fields.specs.declared.Field.TheVariants.{Tx, Rx}

@@ -11,7 +11,7 @@
 -- Of a block:
 --     in_tx f, in_rx f, in_common f                 the field f, if it is one of that part
 --     put_tx f v h, put_rx f v h, put_common f v c  what a put makes of each part
-use Rattle.std.specs.Prelude.{ℕ, suc, ◌%◌, ◌^◌, Bool, true, false, cond, Some, None, Option, ◌==◌}
+use Rattle.std.specs.Prelude.{ℕ, suc, ◌%◌, ◌^◌, Bool, false, cond, Some, None, Option, ◌==◌}
 use Rattle.fields.specs.declared.CommonField.{CommonField}
 use Rattle.fields.specs.declared.Field.{Field}
 use Rattle.fields.specs.declared.Field.TheVariants.{Tx, Rx, Common}

@@ -1,4 +1,6 @@
 //! Tests on examples: of the dividers, the plans and the answers here, of the blocks in `block_tests`.
+#![tactic(auto)]
+
 #[cfg(test)]
 mod block_tests;
 #[cfg(test)]

@@ -1,5 +1,5 @@
 -- The first number at which a function is least: how it is kept from one number to the next, and that it is the computed one. Assumes nothing.
-use Rattle.std.proofs.Common.{◌≡◌, ℕ, zero, suc, ◌+◌, ◌-◌, ◌<◌, ◌≤◌, Bool, true, false, cond, ltb, sym, refl, ap, subst, ⊎_elim, lt_of_lt_of_le, add-zero, arith}
+use Rattle.std.proofs.Common.{◌≡◌, ℕ, zero, suc, ◌+◌, ◌-◌, ◌<◌, ◌≤◌, cond, ltb, sym, refl, ap, subst, ⊎_elim, lt_of_lt_of_le, add-zero, arith}
 use Rattle.std.proofs.lemmas.Bool.{cases_order, cases_lt, cond_both, ltb-true, ltb-false}
 use Rattle.dividers.specs.Search.{FirstLeast}
 use Rattle.dividers.specs.Pair.{least_from, first_least}

@@ -1,5 +1,5 @@
 -- The rule of the pair and its computation agree. Assumes nothing.
-use Rattle.std.proofs.Common.{◌≡◌, ℕ, true, false, cond, sym, refl, ap, ◌∙◌, ⊎_elim}
+use Rattle.std.proofs.Common.{◌≡◌, ℕ, true, sym, refl, ap, ◌∙◌, ⊎_elim}
 use Rattle.std.proofs.lemmas.Bool.{cases_Bool, cond_both, cond-true, cond-false, leb-true, and_parts, both_ways}
 use Rattle.dividers.specs.declared.search.Left.{Left}
 use Rattle.dividers.specs.Search.{FirstLeast, miss_of, numerator_at}

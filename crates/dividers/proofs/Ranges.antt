@@ -1,5 +1,5 @@
 -- Clocks that are in range. Assumes nothing.
-use Rattle.std.proofs.Common.{◌≡◌, ℕ, ◌*◌, ◌^◌, ◌<◌, Bool, false, ◌||◌, eqb, leb, mul-le-mul_left, mul-pos, arith}
+use Rattle.std.proofs.Common.{◌≡◌, ℕ, ◌*◌, ◌^◌, ◌<◌, false, ◌||◌, eqb, leb, mul-le-mul_left, mul-pos, arith}
 use Rattle.std.proofs.lemmas.Bool.{or_parts, eqb-false, leb-false}
 use Rattle.dividers.specs.Clock.{mclk_of, bclk_of, out_of_range}
 

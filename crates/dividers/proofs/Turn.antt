@@ -1,11 +1,10 @@
 -- One turn of the search, and what the pair is at its end. Assumes nothing.
 use Rattle.std.proofs.Common.{◌≡◌, ℕ, ◌+◌, ◌-◌, ◌^◌, ◌<◌, ◌≤◌, true, false, eqb, ltb, sym, refl, ap, ◌∙◌, subst, ⊎_elim, arith}
-use Rattle.std.proofs.lemmas.Bool.{cases_lt, cond-true, ltb-true, ltb-false, leb-true, and_parts, both_ways, eqb-true}
+use Rattle.std.proofs.lemmas.Bool.{cases_lt, ltb-true, ltb-false, eqb-true}
 use Rattle.dividers.specs.declared.search.Left.{Left}
 use Rattle.dividers.specs.declared.search.Tried.{Tried}
-use Rattle.dividers.specs.Search.{FirstLeast, miss_of, numerator_at, tried_at}
-use Rattle.dividers.specs.Pair.{PairRule, has_pair, first_least, pair_of}
-use Rattle.dividers.proofs.Least.{begins, takes, keeps, one_only, computed_least}
+use Rattle.dividers.specs.Search.{FirstLeast, miss_of, tried_at}
+use Rattle.dividers.proofs.Least.{begins, takes, keeps}
 
 -- the best of the denominators up to u, as it was tried
 abbrev pub Best : Left → ℕ → Tried → Type 0

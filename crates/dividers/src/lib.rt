@@ -1,4 +1,6 @@
 //! The clock dividers of an I2S unit: from a rate, a slot count and a data width to the numbers that a chip stores.
+#![tactic(auto)]
+
 mod dividers;
 mod error;
 mod figures;

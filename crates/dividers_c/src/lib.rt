@@ -1,4 +1,6 @@
 //! The dividers for C and Rust to call: a refusal is its number, and the rest is then 0.
+#![tactic(auto)]
+
 ghost use Rattle.std.specs.Prelude.{◌≡◌};
 ghost use Rattle.dividers.specs.Answers.{answer_of, refused_when};
 ghost use Rattle.dividers.specs.Clock.{within_range};

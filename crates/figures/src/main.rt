@@ -1,4 +1,6 @@
 //! Prints the dividers of four common rates: rate, integer part, bit divider, and the pair of each chip.
+#![tactic(auto)]
+
 use dividers::{ConfigError, I2sClockDividers, Rate, settled_rates};
 use std::io;
 

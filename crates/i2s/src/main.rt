@@ -1,4 +1,6 @@
 //! The tool of gins and support: one subcommand for each task.
+#![tactic(auto)]
+
 use answers::{answer_line, summary};
 use anyhow::anyhow;
 use plans::{Tally, first_line};

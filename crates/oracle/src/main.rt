@@ -1,4 +1,6 @@
 //! Replays answers of the published Rust, a line each, and says where the port agrees with them.
+#![tactic(auto)]
+
 use dividers::{I2sClockDividers, I2sMclkDividers, Rate};
 use std::io;
 

@@ -1,5 +1,5 @@
 -- A plan says what holds. Assumes nothing.
-use Rattle.std.proofs.Common.{◌≡◌, ℕ, true, false, eqb, Some, None, Ok, Err, Option, Result, refl}
+use Rattle.std.proofs.Common.{◌≡◌, true, eqb, Some, None, Ok, Err, Option, Result, refl}
 use Rattle.std.proofs.lemmas.Bool.{cond_both, eqb-true}
 use Rattle.dividers.specs.declared.dividers.I2sClockDividers.{I2sClockDividers}
 use Rattle.dividers.specs.declared.error.ConfigError.{ConfigError}
@@ -7,8 +7,6 @@ use Rattle.dividers.specs.declared.split.I2sMclkDividers.{I2sMclkDividers}
 use Rattle.dividers.specs.Answers.{answer_of}
 use Rattle.dividers.specs.Clock.{within_range}
 use Rattle.dividers.specs.Split.{split_answer}
-use Rattle.plans.specs.declared.planning.Fault.{Fault}
-use Rattle.plans.specs.declared.planning.Plan.{Plan}
 use Rattle.plans.specs.declared.read.Ask.{Ask}
 use Rattle.plans.specs.declared.targets.Chip.{Chip}
 use Rattle.plans.specs.declared.targets.Lack.{Lack}

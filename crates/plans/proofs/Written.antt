@@ -1,14 +1,13 @@
 -- A line of three numbers, written with a space between them, is read as these numbers. Assumes nothing.
-use Rattle.std.proofs.Common.{◌≡◌, ℕ, zero, suc, ◌+◌, ◌-◌, ◌*◌, ◌/◌, ◌%◌, ◌^◌, ◌<◌, ◌≤◌, Bool, true, false, cond, not, ◌&&◌, ◌||◌, eqb, ltb, leb, List, [], ◌∷◌, ◌++◌, length, get_or, take, drop, Ok, decimal, fold, Result, sym, refl, ap, ◌∙◌, append-nil, one-add, arith, length-append}
+use Rattle.std.proofs.Common.{◌≡◌, ℕ, ◌+◌, ◌-◌, ◌*◌, ◌%◌, ◌^◌, ◌<◌, ◌≤◌, true, false, ◌||◌, eqb, ltb, List, [], ◌∷◌, ◌++◌, length, get_or, take, drop, Ok, decimal, Result, sym, refl, ap, ◌∙◌, append-nil, one-add, arith, length-append}
 use lib.Seq.{take-append_seam, drop-append_seam}
 use Rattle.std.proofs.lemmas.Fmt.{decimal_by_steps}
 use Rattle.std.proofs.lemmas.List.Sums.{fold_push}
 use Rattle.std.proofs.lemmas.Bool.{and_parts, and_from, leb-true, le-leb, le-ltb, ne_eqb, or_from, not_from_false, cond-true, cond-false}
-use Rattle.plans.specs.declared.read.Ask.{Ask}
 use Rattle.plans.specs.declared.read.Number.{Number}
 use Rattle.plans.specs.declared.read.Number.TheVariants.{Rate, Slots, Bits}
 use Rattle.plans.specs.declared.read.Unread.{Unread}
-use Rattle.plans.specs.declared.read.Kind.TheVariants.{Blank, Word, Digit, Line}
+use Rattle.plans.specs.declared.read.Kind.TheVariants.{Blank, Word, Digit}
 use Rattle.plans.specs.Lines.{ReadsWritten, ask_of, asked_rate, fourth_word, is_blank, is_empty, is_of, leading_of, number_of, past_blanks, past_word, read_as, reading_by, reading_of, second_word, third_word, value_of, word_in}
 
 -- each byte is a digit

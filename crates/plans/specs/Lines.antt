@@ -8,7 +8,7 @@
 --     ask_of rate slots bits  the three numbers, or the first that is none
 --     reading_of line         what a line is
 --     ReadsWritten line r     what is written as three numbers is read as them
-use Rattle.std.specs.Prelude.{◌≡◌, ℕ, ◌+◌, ◌-◌, ◌*◌, ◌^◌, ◌<◌, Bool, true, false, cond, not, ◌&&◌, ◌||◌, List, [], ◌∷◌, ◌++◌, length, take, drop, Ok, Err, decimal, fold, Result, ◌==◌, nat_le, nat_lt, slice_index}
+use Rattle.std.specs.Prelude.{◌≡◌, ℕ, ◌+◌, ◌-◌, ◌*◌, ◌^◌, ◌<◌, Bool, cond, not, ◌&&◌, ◌||◌, List, ◌∷◌, ◌++◌, length, take, drop, Ok, Err, decimal, fold, Result, ◌==◌, nat_le, nat_lt, slice_index}
 use Rattle.std.specs.List.{prefix_len}
 use Rattle.plans.specs.declared.read.Ask.{Ask}
 use Rattle.plans.specs.declared.read.Number.{Number}

@@ -6,7 +6,7 @@
 --                            is out of range, or what the chip lacks
 --     is_planned plan        whether there are dividers
 --     any_planned chips ask  whether one of the chips has some
-use Rattle.std.specs.Prelude.{◌≡◌, ℕ, max, Bool, true, false, cond, ◌||◌, List, [], ◌∷◌, Some, None, Ok, Err, Option, Result, ◌==◌}
+use Rattle.std.specs.Prelude.{◌≡◌, max, Bool, true, false, cond, ◌||◌, List, [], ◌∷◌, Some, None, Ok, Err, Option, Result, ◌==◌}
 use Rattle.dividers.specs.declared.dividers.I2sClockDividers.{I2sClockDividers}
 use Rattle.dividers.specs.declared.error.ConfigError.{ConfigError}
 use Rattle.dividers.specs.declared.error.ConfigError.TheVariants.{ClockOutOfReach}

@@ -1,4 +1,6 @@
 //! Plans of clocks: lines of rate, slots and bits read, and planned for each chip.
+#![tactic(auto)]
+
 mod counting;
 mod planning;
 mod read;

@@ -3,13 +3,12 @@ use mathlib.Core.Path.{◌≡◌, refl, ap, fun_ext, ◌∙◌}
 use mathlib.Core.List.{List}
 use Prim.Native.Nat.{ℕ, zero, suc}
 use lib.ListN.{get_or, replicate}
-use Rattle.fields.specs.declared.CommonField.{CommonField}
 use Rattle.fields.specs.Table.{Row, common_row, rx_row, tx_row}
 use Rattle.marks.specs.declared.Draw.{Draw}
 use Rattle.marks.specs.declared.Marks.{Marks}
 use Rattle.marks.specs.Marks.{new_marks}
 use Rattle.tables.specs.declared.Plain.{Plain}
-use Rattle.blocks.specs.Half.{Half, new_common, new_half}
+use Rattle.blocks.specs.Half.{new_common, new_half}
 use Rattle.tables.specs.Plain.{JustMade, common_in, half_in, rx_in, tx_in}
 
 zero_at : (n i : ℕ) → ◌≡◌ {A = ℕ} (get_or (replicate n 0) i 0) 0

@@ -1,4 +1,6 @@
 //! The two blocks that come with the port, both over one plain table: a paced one and a scripted one.
+#![tactic(auto)]
+
 mod paced;
 mod scripted;
 

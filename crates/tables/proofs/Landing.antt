@@ -1,17 +1,14 @@
 -- A put into the table, seen as a put into each half and the common part.
-use Rattle.std.proofs.Common.{◌≡◌, ℕ, ◌%◌, ◌^◌, ◌<◌, ◌≤◌, ◌≢◌, List, length, get_or, set, Some, None, Option, sym, refl, ap, ◌∙◌, subst, ⊎_elim, arith, get_or-set_other, get_or-set_same}
+use Rattle.std.proofs.Common.{◌≡◌, ℕ, ◌%◌, ◌^◌, ◌<◌, ◌≢◌, List, length, get_or, set, Some, None, Option, sym, refl, ap, ◌∙◌, subst, ⊎_elim, arith, get_or-set_other, get_or-set_same}
 use mathlib.Core.Path.{fun_ext}
 use Rattle.std.proofs.lemmas.Bool.{cases_eq, eq-eqb, ne_eqb, cond-true, cond-false}
 use Rattle.fields.specs.declared.CommonField.{CommonField}
 use Rattle.fields.specs.declared.Field.{Field}
 use Rattle.fields.specs.declared.Field.TheVariants.{Tx, Rx, Common}
-use Rattle.fields.specs.declared.RxField.{RxField}
-use Rattle.fields.specs.declared.TxField.{TxField}
 use Rattle.fields.specs.Table.{Row, place_of, tx_row, rx_row, common_row}
 use Rattle.fields.proofs.Known.{tx_below, rx_between, common_above, place_below}
 use Rattle.marks.specs.declared.Draw.{Draw}
 use Rattle.marks.specs.declared.Marks.{Marks}
-use Rattle.blocks.specs.Half.{Half}
 use Rattle.tables.specs.Plain.{half_in}
 use Rattle.blocks.specs.Puts.{draws_on, in_common, in_rx, in_tx, later, marks_after, put_on, stored_in, stored_on, storing}
 

@@ -1,4 +1,4 @@
-use Rattle.std.proofs.Common.{◌≡◌, ℕ, ◌-◌, ◌<◌, sym, refl, subst, arith, rules}
+use Rattle.std.proofs.Common.{◌<◌, sym, refl, subst, arith, rules}
 use Rattle.dividers.specs.Split.{Restores}
 use Rattle.dividers.proofs.Splits.{counts}
 use Rattle.dividers.proofs.split.split_pair.Goals as goal
