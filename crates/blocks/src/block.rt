@@ -24,22 +24,22 @@ pub trait RegBlock {
     /// The number that a field stores.
     fn get(&self, field: Field) -> u32
         ensures answer { result ≡ number_in (tx self.now) (rx self.now) (common self.now) field }
-        ensures unchanged { self.now ≡ self.now };
+        ensures unchanged { self.exit.now ≡ self.entry.now };
 
     /// The events of a half that stand, enabled or not.
     fn events(&self, half: Side) -> Events
         ensures answer { result ≡ (marks_on half (tx self.now) (rx self.now)).events }
-        ensures unchanged { self.now ≡ self.now };
+        ensures unchanged { self.exit.now ≡ self.entry.now };
 
     /// The events of a half that are enabled, standing or not.
     fn enabled(&self, half: Side) -> Events
         ensures answer { result ≡ (marks_on half (tx self.now) (rx self.now)).enabled }
-        ensures unchanged { self.now ≡ self.now };
+        ensures unchanged { self.exit.now ≡ self.entry.now };
 
     /// The events of a half that are reported: they stand and are enabled.
     fn reported(&self, half: Side) -> Events
         ensures answer { result ≡ intersection (marks_on half (tx self.now) (rx self.now)).events (marks_on half (tx self.now) (rx self.now)).enabled }
-        ensures unchanged { self.now ≡ self.now }
+        ensures unchanged { self.exit.now ≡ self.entry.now }
     {
         self.events(half).intersection(self.enabled(half))
     }

@@ -29,7 +29,8 @@ fn cut_to_width(field: Field, value: u32) -> u32
 }
 
 fn cut(value: u32, width: u32) -> u32
-    requires { (1 ≤ width) × (width ≤ 32) }
+    requires least { 1 ≤ width }
+    requires most { width ≤ 32 }
     ensures { result ≡ value % 2 ^ width }
 {
     if width == u32::BITS {

@@ -30,7 +30,7 @@ impl PacedBlock {
     /// What a half keeps beside its fields, for tests and reports; a chip's registers do not show it.
     pub fn marks(&self, half: Side) -> Marks
         ensures answer { result ≡ marks_on half (paced_tx self.now) (paced_rx self.now) }
-        ensures unchanged { self.now ≡ self.now }
+        ensures unchanged { self.exit.now ≡ self.entry.now }
     {
         self.plain.marks(half)
     }

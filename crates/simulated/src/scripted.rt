@@ -32,7 +32,7 @@ impl<'a> ScriptedBlock<'a> {
     /// What a half keeps beside its fields, for tests and reports; a chip's registers do not show it.
     pub fn marks(&self, half: Side) -> Marks
         ensures answer { result ≡ marks_on half (scripted_tx self.now) (scripted_rx self.now) }
-        ensures unchanged { self.now ≡ self.now }
+        ensures unchanged { self.exit.now ≡ self.entry.now }
     {
         self.plain.marks(half)
     }
