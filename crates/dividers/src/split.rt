@@ -67,8 +67,7 @@ fn above_half(denominator: u32, numerator: u32) -> bool
 
 // How often z goes into the denominator, one less, and what is left.
 fn counted_in(denominator: u32, z: u32, yn1: bool) -> I2sMclkDividers
-    requires some { 0 < z }
-    requires within { z ≤ denominator }
+    requires { (0 < z) × (z ≤ denominator) }
     ensures { result ≡ counted_in denominator z yn1 }
 {
     I2sMclkDividers {
