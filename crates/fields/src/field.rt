@@ -11,14 +11,14 @@ use crate::receive::RxField;
 use crate::transmit::TxField;
 
 /// One of the two halves of a block.
-#[derive(Clone, Copy)]
+#[derive(Clone, Copy, PartialEq, Eq, Debug)]
 pub enum Side {
     Transmit,
     Receive,
 }
 
 /// What a put does besides storing. All but `Setting` do it where 1 is stored, and nothing where 0 is.
-#[derive(Clone, Copy)]
+#[derive(Clone, Copy, PartialEq, Eq, Debug)]
 pub enum Kind {
     /// Raises busy, stale and link, and draws.
     Start,
@@ -35,13 +35,14 @@ pub enum Kind {
 }
 
 /// A field of a block, by the half that it belongs to.
-#[derive(Clone, Copy)]
+#[derive(Clone, Copy, Debug)]
 pub enum Field {
     Tx(TxField),
     Rx(RxField),
     Common(CommonField),
 }
 
+#[tactic(auto, using(crate::proofs::Known::facts))]
 impl Field {
     /// Where the field stands in a table of 160 places.
     pub fn place(self) -> usize
@@ -49,7 +50,11 @@ impl Field {
         ensures within { result < 160 }
         ensures apart { NoPlaceTwice }
     {
-        place_of(self)
+        match self {
+            Field::Tx(f) => f as usize,
+            Field::Rx(f) => f as usize,
+            Field::Common(f) => f as usize,
+        }
     }
 
     /// The field's width in bits, 1 to 32.
@@ -59,7 +64,11 @@ impl Field {
         ensures least { 1 ≤ result }
         ensures most { result ≤ 32 }
     {
-        width_of(self)
+        match self {
+            Field::Tx(f) => f.width(),
+            Field::Rx(f) => f.width(),
+            Field::Common(f) => f.width(),
+        }
     }
 
     /// What a put into the field does besides storing. A common field is a setting, and has no mark to raise.
@@ -67,7 +76,11 @@ impl Field {
         ensures kind { result ≡ kind_of self }
         ensures named { result ≡ kind_named (row_of self).name }
     {
-        kind_of(self)
+        match self {
+            Field::Tx(f) => f.kind(),
+            Field::Rx(f) => f.kind(),
+            Field::Common(f) => f.kind(),
+        }
     }
 
     /// The half that the field belongs to; none where it is common.
@@ -75,7 +88,11 @@ impl Field {
         ensures half { result ≡ half_of self }
         ensures named { result ≡ half_named (row_of self).chip (row_of self).name }
     {
-        half_of(self)
+        match self {
+            Field::Tx(_) => Some(Side::Transmit),
+            Field::Rx(_) => Some(Side::Receive),
+            Field::Common(_) => None,
+        }
     }
 }
 
@@ -96,48 +113,8 @@ impl Eq for Field {
     ghost laws = { Prim.search (comparing, rules) };
 }
 
-fn place_of(field: Field) -> usize
-    ensures { result ≡ place_of field }
-{
-    match field {
-        Field::Tx(f) => f.place(),
-        Field::Rx(f) => f.place(),
-        Field::Common(f) => f.place(),
-    }
-}
-
-fn width_of(field: Field) -> u32
-    ensures { result ≡ width_of field }
-{
-    match field {
-        Field::Tx(f) => f.width(),
-        Field::Rx(f) => f.width(),
-        Field::Common(f) => f.width(),
-    }
-}
-
-fn kind_of(field: Field) -> Kind
-    ensures { result ≡ kind_of field }
-{
-    match field {
-        Field::Tx(f) => f.kind(),
-        Field::Rx(f) => f.kind(),
-        Field::Common(f) => f.kind(),
-    }
-}
-
-fn half_of(field: Field) -> Option<Side>
-    ensures { result ≡ half_of field }
-{
-    match field {
-        Field::Tx(_) => Some(Side::Transmit),
-        Field::Rx(_) => Some(Side::Receive),
-        Field::Common(_) => None,
-    }
-}
-
 fn at_one_place(one: Field, other: Field) -> bool
     ensures { result ≡ (place_of one == place_of other) }
 {
-    place_of(one) == place_of(other)
+    one.place() == other.place()
 }
