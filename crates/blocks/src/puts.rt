@@ -6,12 +6,13 @@ ghost use Rattle.blocks.specs.Puts.{starting, stored_in};
 
 use fields::{Field, Kind};
 
+#[tactic(auto, using(crate::proofs::Laws::puts_read_back))]
 /// The number that a put of `value` into a field stores.
 pub fn stored(field: Field, value: u32) -> u32
     ensures stored { result ≡ stored_in field value }
     ensures read { PutsReadBack }
 {
-    cut_to_width(field, value)
+    cut(value, field.width())
 }
 
 /// Whether a put of `value` into a field is a start of its half.
@@ -19,13 +20,7 @@ pub fn is_start(field: Field, value: u32) -> bool
     ensures start { result ≡ starting (kind_of field) (stored_in field value) }
     ensures leave { StartsLeave }
 {
-    stores_a_start(field, value)
-}
-
-fn cut_to_width(field: Field, value: u32) -> u32
-    ensures { result ≡ stored_in field value }
-{
-    cut(value, field.width())
+    field.kind() == Kind::Start && stored(field, value) == 1
 }
 
 fn cut(value: u32, width: u32) -> u32
@@ -37,14 +32,5 @@ fn cut(value: u32, width: u32) -> u32
         value
     } else {
         value % (1 << width)
-    }
-}
-
-fn stores_a_start(field: Field, value: u32) -> bool
-    ensures { result ≡ starting (kind_of field) (stored_in field value) }
-{
-    match field.kind() {
-        Kind::Start => cut_to_width(field, value) == 1,
-        _ => false,
     }
 }

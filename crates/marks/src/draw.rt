@@ -3,7 +3,7 @@ ghost use Rattle.std.specs.Prelude.{◌≡◌, ◌+◌};
 ghost use Rattle.marks.specs.Courses.{TxCourses, RxCourses};
 
 /// A row of three that a start draws; it is not known before.
-#[derive(Clone, Copy)]
+#[derive(Clone, Copy, PartialEq, Eq, Debug)]
 pub struct Draw {
     /// Polls that find a transmit half still idle. A receive half keeps it and never uses it.
     pub late: u32,
@@ -13,13 +13,14 @@ pub struct Draw {
     pub hung: bool,
 }
 
+#[tactic(auto, using(crate::proofs::Courses::tx_courses, crate::proofs::Courses::rx_courses))]
 impl Draw {
     /// How many polls a transmit half takes from a start that draws this to the poll that finds the transfer over.
     pub fn tx_polls(self) -> u64
         ensures polls { result ≡ self.late + self.wait + 1 }
         ensures course { TxCourses self }
     {
-        until_tx_end(self)
+        self.late as u64 + self.wait as u64 + 1
     }
 
     /// The same of a receive half.
@@ -27,18 +28,6 @@ impl Draw {
         ensures polls { result ≡ self.wait + 1 }
         ensures course { RxCourses self }
     {
-        until_rx_end(self)
+        self.wait as u64 + 1
     }
-}
-
-fn until_tx_end(draw: Draw) -> u64
-    ensures { result ≡ draw.late + draw.wait + 1 }
-{
-    draw.late as u64 + draw.wait as u64 + 1
-}
-
-fn until_rx_end(draw: Draw) -> u64
-    ensures { result ≡ draw.wait + 1 }
-{
-    1 + draw.wait as u64
 }

@@ -3,7 +3,7 @@ ghost use Rattle.std.specs.Prelude.{◌≡◌};
 ghost use Rattle.marks.specs.Events.{no_events, union, intersection, difference};
 
 /// Which of its four events a half has, each by its name in the transmit and in the receive half.
-#[derive(Clone, Copy, PartialEq, Eq)]
+#[derive(Clone, Copy, PartialEq, Eq, Debug)]
 pub struct Events {
     /// tx_hung, rx_hung
     pub hung: bool,

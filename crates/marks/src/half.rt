@@ -7,7 +7,7 @@ use crate::events::Events;
 use fields::Kind;
 
 /// What a half keeps beside its fields.
-#[derive(Clone, Copy)]
+#[derive(Clone, Copy, PartialEq, Eq, Debug)]
 pub struct Marks {
     /// A transfer runs.
     pub busy: bool,
@@ -28,22 +28,6 @@ pub struct Marks {
     /// The latest draw's hung bit.
     pub hung: bool,
 }
-
-// What stands once a transfer has ended.
-const END_EVENTS: Events = Events {
-    hung: false,
-    done: true,
-    link_done: true,
-    eof: true,
-};
-
-// The same where the hung bit was drawn.
-const HUNG_END_EVENTS: Events = Events {
-    hung: true,
-    done: true,
-    link_done: true,
-    eof: true,
-};
 
 impl Marks {
     /// The marks of a half that was just made: all down, 0 or none.
@@ -146,10 +130,11 @@ impl Marks {
         ensures { self.new ≡ ended self.old }
     {
         self.busy = false;
-        self.events = self.events.union(if self.hung {
-            HUNG_END_EVENTS
-        } else {
-            END_EVENTS
+        self.events = self.events.union(Events {
+            hung: self.hung,
+            done: true,
+            link_done: true,
+            eof: true,
         });
     }
 }
