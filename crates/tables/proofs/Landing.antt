@@ -6,7 +6,7 @@ use Rattle.fields.specs.declared.CommonField.{CommonField}
 use Rattle.fields.specs.declared.Field.{Field}
 use Rattle.fields.specs.declared.Field.TheVariants.{Tx, Rx, Common}
 use Rattle.fields.specs.Table.{Row, place_of, tx_row, rx_row, common_row}
-use Rattle.fields.proofs.Known.{tx_below, rx_between, common_above, place_below}
+use Rattle.fields.proofs.Known.{place_below, place_between}
 use Rattle.marks.specs.declared.Draw.{Draw}
 use Rattle.marks.specs.declared.Marks.{Marks}
 use Rattle.tables.specs.Plain.{half_in}
@@ -38,17 +38,17 @@ module _ {F : Type 0} (row : F → Row) (t : List ℕ) (v : ℕ) where
 
 tx_lands : (f : Field) (v : ℕ) → Lands tx_row (in_tx f) (place_of f) (stored_in f v) v
 tx_lands (Tx f) v = (refl, refl)
-tx_lands (Rx f) v = λ g. omega (arith, tx_below g, rx_between f)
-tx_lands (Common f) v = λ g. omega (arith, tx_below g, common_above f)
+tx_lands (Rx f) v = λ g. omega (arith, place_between (Tx g), place_between (Rx f))
+tx_lands (Common f) v = λ g. omega (arith, place_between (Tx g), place_between (Common f))
 
 rx_lands : (f : Field) (v : ℕ) → Lands rx_row (in_rx f) (place_of f) (stored_in f v) v
-rx_lands (Tx f) v = λ g. omega (arith, rx_between g, tx_below f)
+rx_lands (Tx f) v = λ g. omega (arith, place_between (Rx g), place_between (Tx f))
 rx_lands (Rx f) v = (refl, refl)
-rx_lands (Common f) v = λ g. omega (arith, rx_between g, common_above f)
+rx_lands (Common f) v = λ g. omega (arith, place_between (Rx g), place_between (Common f))
 
 common_lands : (f : Field) (v : ℕ) → Lands common_row (in_common f) (place_of f) (stored_in f v) v
-common_lands (Tx f) v = λ g. omega (arith, common_above g, tx_below f)
-common_lands (Rx f) v = λ g. omega (arith, common_above g, rx_between f)
+common_lands (Tx f) v = λ g. omega (arith, place_between (Common g), place_between (Tx f))
+common_lands (Rx f) v = λ g. omega (arith, place_between (Common g), place_between (Rx f))
 common_lands (Common f) v = (refl, refl)
 
 module _ (f : Field) (v : ℕ) (t s : List ℕ) (sized : length t ≡ 160) (put : s ≡ set t (place_of f) (stored_in f v)) where
@@ -63,6 +63,3 @@ module _ (f : Field) (v : ℕ) (t s : List ℕ) (sized : length t ≡ 160) (put 
 
   pub common_put : ◌≡◌ {A = CommonField → ℕ} (λ g. get_or s (common_row g).place 0) (stored_on common_row (in_common f) v (λ g. get_or t (common_row g).place 0))
   common_put = ap (λ u g. get_or u (common_row g).place 0) put ∙ numbers_put common_row t v (in_common f) (place_of f) (stored_in f v) inside (common_lands f v)
-
-  pub unused_kept : (k : ℕ) → ((g : Field) → place_of g ≢ k) → get_or s k 0 ≡ get_or t k 0
-  unused_kept k h = ap (λ u. get_or u k 0) put ∙ get_or-set_other t (place_of f) k (stored_in f v) 0 (λ e. h f (sym e))

@@ -5,6 +5,7 @@
 --     marks_of side p     the marks of that half
 --     JustMade p          every number 0 and every mark down
 --     UnusedKept p q      q has p's numbers at the places that no field has
+--     MarksMoved t r p q  q is p with the transmit half's marks moved by t and the receive half's by r
 use Rattle.std.specs.Prelude.{◌≡◌, ℕ, List, replicate, ◌≢◌, slice_index}
 use Rattle.fields.specs.declared.CommonField.{CommonField}
 use Rattle.fields.specs.declared.Field.{Field}
@@ -42,3 +43,8 @@ pub record JustMade (p : Plain) : Type 0 where
 
 abbrev pub UnusedKept : Plain → Plain → Type 0
 UnusedKept p q = (k : ℕ) → ((f : Field) → place_of f ≢ k) → slice_index q.table k ≡ slice_index p.table k
+
+pub record MarksMoved (t r : Marks → Marks) (p q : Plain) : Type 0 where
+  pub table : q.table ≡ p.table
+  pub tx : q.tx ≡ t p.tx
+  pub rx : q.rx ≡ r p.rx
