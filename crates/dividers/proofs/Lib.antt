@@ -3,4 +3,3 @@ pub mod Least
 pub mod Turn
 pub mod Pairs
 pub mod Ranges
-pub mod Splits

@@ -107,10 +107,11 @@ impl I2sClockDividers {
     pub fn within(&self, range: DividerRange) -> Result<(), ConfigError>
         ensures refused { refused_by result ≡ refused_when (not (within_range self.now.mclk_divider range.least range.most)) 5 }
     {
-        if self.mclk_divider < range.least || self.mclk_divider > range.most {
-            return Err(ConfigError::ClockOutOfReach);
+        if (range.least..=range.most).contains(&self.mclk_divider) {
+            Ok(())
+        } else {
+            Err(ConfigError::ClockOutOfReach)
         }
-        Ok(())
     }
 }
 

@@ -23,57 +23,58 @@ impl I2sClockDividers {
         ensures restores { Accepts result (Restores self.now.denominator self.now.numerator) }
         ensures computed { result ≡ split_answer self.now.denominator self.now.numerator }
     {
-        if cannot_be_split(self.denominator, self.numerator) {
+        if self.is_unsplittable() {
             return Err(ConfigError::ClockOutOfReach);
         }
-        Ok(split_pair(self.denominator, self.numerator))
+        Ok(self.split())
     }
-}
 
-// Whether there is a pair, and it is not below 1.
-fn cannot_be_split(denominator: u32, numerator: u32) -> bool
-    ensures { result ≡ unsplittable denominator numerator }
-{
-    denominator > 0 && numerator >= denominator
-}
-
-// The four parts of a pair below 1.
-fn split_pair(denominator: u32, numerator: u32) -> I2sMclkDividers
-    requires { unsplittable denominator numerator ≡ false }
-    ensures restores { Restores denominator numerator result }
-    ensures computed { result ≡ split_of denominator numerator }
-{
-    if denominator == 0 || numerator == 0 {
-        return I2sMclkDividers {
-            x: 0,
-            y: 0,
-            z: 0,
-            yn1: true,
-        };
+    // Whether there is a pair, and it is not below 1.
+    fn is_unsplittable(&self) -> bool
+        ensures { result ≡ unsplittable self.now.denominator self.now.numerator }
+    {
+        self.denominator > 0 && self.numerator >= self.denominator
     }
-    if above_half(denominator, numerator) {
-        counted_in(denominator, denominator - numerator, true)
-    } else {
-        counted_in(denominator, numerator, false)
+
+    // The four parts of a pair below 1.
+    fn split(&self) -> I2sMclkDividers
+        requires { unsplittable self.now.denominator self.now.numerator ≡ false }
+        ensures restores { Restores self.now.denominator self.now.numerator result }
+        ensures computed { result ≡ split_of self.now.denominator self.now.numerator }
+    {
+        if self.denominator == 0 || self.numerator == 0 {
+            return I2sMclkDividers {
+                x: 0,
+                y: 0,
+                z: 0,
+                yn1: true,
+            };
+        }
+        if self.is_above_half() {
+            self.counted_in(self.denominator - self.numerator, true)
+        } else {
+            self.counted_in(self.numerator, false)
+        }
     }
-}
 
-// Whether the pair is nearer to 1 than to 0.
-fn above_half(denominator: u32, numerator: u32) -> bool
-    ensures { result ≡ above_half denominator numerator }
-{
-    2 * numerator as u64 > denominator as u64
-}
+    // Whether the pair is nearer to 1 than to 0.
+    fn is_above_half(&self) -> bool
+        ensures { result ≡ above_half self.now.denominator self.now.numerator }
+    {
+        2 * self.numerator as u64 > self.denominator as u64
+    }
 
-// How often z goes into the denominator, one less, and what is left.
-fn counted_in(denominator: u32, z: u32, yn1: bool) -> I2sMclkDividers
-    requires { (0 < z) × (z ≤ denominator) }
-    ensures { result ≡ counted_in denominator z yn1 }
-{
-    I2sMclkDividers {
-        x: denominator / z - 1,
-        y: denominator % z,
-        z,
-        yn1,
+    // How often z goes into the denominator, one less, and what is left.
+    fn counted_in(&self, z: u32, yn1: bool) -> I2sMclkDividers
+        requires some { 0 < z }
+        requires fits { z ≤ self.now.denominator }
+        ensures { result ≡ counted_in self.now.denominator z yn1 }
+    {
+        I2sMclkDividers {
+            x: self.denominator / z - 1,
+            y: self.denominator % z,
+            z,
+            yn1,
+        }
     }
 }
