@@ -2,4 +2,3 @@ pub mod Bounds
 pub mod Least
 pub mod Turn
 pub mod Pairs
-pub mod Ranges

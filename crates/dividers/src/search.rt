@@ -3,13 +3,9 @@ ghost use Rattle.std.specs.Prelude.{◌≡◌, ◌+◌, ◌^◌, ◌<◌, ◌≤
 ghost use Rattle.dividers.specs.Pair.{PairRule, has_pair, pair_of};
 ghost use Rattle.dividers.specs.Search.{FirstLeast, miss_of, numerator_at, tried_at};
 ghost use Rattle.dividers.specs.Trials.{trial_at};
-ghost use Rattle.dividers.specs.Clock.{left_of};
-
-/// The source clock, in hertz.
-pub const I2S_SCLK: u32 = 160_000_000;
 
 // Decimals are counted in parts of this.
-const WHOLE_DECIMAL: u64 = 10_000;
+pub const WHOLE_DECIMAL: u64 = 10_000;
 
 const HALF_DECIMAL: u64 = 5_000;
 
@@ -79,19 +75,6 @@ impl Tried {
 }
 
 impl Left {
-    // What the integer part of I2S_SCLK / mclk leaves.
-    pub(crate) fn of(mclk: u32) -> Left
-        requires { 0 < mclk }
-        ensures { result ≡ left_of mclk }
-    {
-        let rest = I2S_SCLK - I2S_SCLK / mclk * mclk;
-        Left {
-            rest,
-            mclk,
-            decimal: rest as u64 * WHOLE_DECIMAL / mclk as u64,
-        }
-    }
-
     // Whether the integer part rises by one in place of a fraction.
     pub(crate) fn carries(&self) -> bool
         ensures { result ≡ nat_lt 9920 self.now.decimal }
