@@ -9,12 +9,5 @@ pub fn settled_rates() -> [u32; 4]
     ensures settled { FiguresSettled }
     ensures agrees { PairAgrees }
 {
-    rates_shown()
-}
-
-fn rates_shown() -> [u32; 4]
-    ensures rates { result ≡ rates_shown }
-    ensures settled { FiguresSettled }
-{
     [8_000, 32_000, 44_100, 48_000]
 }

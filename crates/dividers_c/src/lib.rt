@@ -2,12 +2,15 @@
 #![tactic(auto)]
 
 ghost use Rattle.std.specs.Prelude.{◌≡◌};
-ghost use Rattle.dividers.specs.Answers.{answer_of, refused_when};
+ghost use Rattle.dividers.specs.Answers.{answer_of};
 ghost use Rattle.dividers.specs.Clock.{within_range};
 ghost use Rattle.dividers.specs.Split.{split_answer};
 ghost use Rattle.dividers_c.specs.InC.{dividers_in_c, split_in_c, within_in_c};
 
-use dividers::{DividerRange, I2sClockDividers, I2sMclkDividers, Rate};
+use dividers::{ConfigError, DividerRange, I2sClockDividers, I2sMclkDividers, Rate};
+
+// What stands for no refusal.
+const ACCEPTED: u32 = 0;
 
 /// Dividers as C has them; `refusal` is 0 where there are any.
 #[repr(C)]
@@ -18,6 +21,29 @@ pub struct Dividers {
     pub bclk_divider: u32,
     pub denominator: u32,
     pub numerator: u32,
+}
+
+impl From<Result<I2sClockDividers, ConfigError>> for Dividers {
+    ghost from_gives = { λ answer d. d ≡ dividers_in_c answer };
+
+    fn from(answer: Result<I2sClockDividers, ConfigError>) -> Dividers {
+        match answer {
+            Ok(d) => Dividers {
+                refusal: ACCEPTED,
+                mclk_divider: d.mclk_divider,
+                bclk_divider: d.bclk_divider,
+                denominator: d.denominator,
+                numerator: d.numerator,
+            },
+            Err(e) => Dividers {
+                refusal: u32::from(e.number()),
+                mclk_divider: 0,
+                bclk_divider: 0,
+                denominator: 0,
+                numerator: 0,
+            },
+        }
+    }
 }
 
 /// A split pair as C has it; `refusal` is 0 where there is one, and `yn1` is 0 or 1.
@@ -31,36 +57,35 @@ pub struct MclkDividers {
     pub yn1: u32,
 }
 
+impl From<Result<I2sMclkDividers, ConfigError>> for MclkDividers {
+    ghost from_gives = { λ answer d. d ≡ split_in_c answer };
+
+    fn from(answer: Result<I2sMclkDividers, ConfigError>) -> MclkDividers {
+        match answer {
+            Ok(I2sMclkDividers { x, y, z, yn1 }) => MclkDividers {
+                refusal: ACCEPTED,
+                x,
+                y,
+                z,
+                yn1: u32::from(yn1),
+            },
+            Err(e) => MclkDividers {
+                refusal: u32::from(e.number()),
+                x: 0,
+                y: 0,
+                z: 0,
+                yn1: 0,
+            },
+        }
+    }
+}
+
 /// The dividers of a rate in hertz.
 #[unsafe(no_mangle)]
 pub extern "C" fn i2s_clock_dividers(rate: u32, channels: u8, data_bits: u8, max: u32) -> Dividers
     ensures { result ≡ dividers_in_c (answer_of rate channels data_bits max) }
 {
-    match I2sClockDividers::new(Rate::from_hz(rate), channels, data_bits, max) {
-        Ok(
-            I2sClockDividers {
-                mclk_divider,
-                bclk_divider,
-                denominator,
-                numerator,
-            },
-        ) => {
-            Dividers {
-                refusal: 0,
-                mclk_divider,
-                bclk_divider,
-                denominator,
-                numerator,
-            }
-        }
-        Err(e) => Dividers {
-            refusal: u32::from(e.number()),
-            mclk_divider: 0,
-            bclk_divider: 0,
-            denominator: 0,
-            numerator: 0,
-        },
-    }
+    I2sClockDividers::new(Rate::from_hz(rate), channels, data_bits, max).into()
 }
 
 /// The pair of denominator and numerator, split.
@@ -74,22 +99,7 @@ pub extern "C" fn i2s_mclk_dividers(denominator: u32, numerator: u32) -> MclkDiv
         denominator,
         numerator,
     };
-    match pair.mclk_dividers() {
-        Ok(I2sMclkDividers { x, y, z, yn1 }) => MclkDividers {
-            refusal: 0,
-            x,
-            y,
-            z,
-            yn1: u32::from(yn1),
-        },
-        Err(e) => MclkDividers {
-            refusal: u32::from(e.number()),
-            x: 0,
-            y: 0,
-            z: 0,
-            yn1: 0,
-        },
-    }
+    pair.mclk_dividers().into()
 }
 
 /// 0 where an integer part lies from the least to the most, else the refusal's number.
@@ -104,7 +114,7 @@ pub extern "C" fn i2s_within(mclk_divider: u32, least: u32, most: u32) -> u32
         numerator: 0,
     };
     match dividers.within(DividerRange { least, most }) {
-        Ok(()) => 0,
+        Ok(()) => ACCEPTED,
         Err(e) => u32::from(e.number()),
     }
 }
