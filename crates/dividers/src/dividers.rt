@@ -10,7 +10,7 @@ use crate::rate::Rate;
 
 /// What a unit's clocks are made by: the source clock is divided by `mclk_divider` + `numerator` / `denominator`, and the
 /// result by `bclk_divider`.
-#[derive(Clone, Copy)]
+#[derive(Clone, Copy, PartialEq, Eq, Debug)]
 pub struct I2sClockDividers {
     /// The integer part, after its carry.
     pub mclk_divider: u32,
@@ -23,7 +23,7 @@ pub struct I2sClockDividers {
 }
 
 /// The integer parts that a chip takes, from the least to the most.
-#[derive(Clone, Copy)]
+#[derive(Clone, Copy, PartialEq, Eq, Debug)]
 pub struct DividerRange {
     pub least: u32,
     pub most: u32,

@@ -14,6 +14,9 @@ const CARRY_ABOVE: u64 = 9_920;
 
 const LEAST_DENOMINATOR: u32 = 2;
 
+// What stands for no pair.
+const NO_PAIR: (u32, u32) = (0, 0);
+
 // 2^64 / 10,000, rounded up.
 const TEN_THOUSANDTH: u128 = 1_844_674_407_370_956;
 
@@ -51,9 +54,9 @@ struct Trial {
 
 // A denominator, and by how much it misses with its numerator: |rest × denominator − mclk × numerator|.
 #[derive(Clone, Copy)]
-pub struct Tried {
-    pub denominator: u32,
-    pub miss: u64,
+struct Tried {
+    denominator: u32,
+    miss: u64,
 }
 
 impl Left {
@@ -64,7 +67,7 @@ impl Left {
         self.decimal > CARRY_ABOVE
     }
 
-    // The pair of denominator and numerator, 0 and 0 where there is none.
+    // The pair of denominator and numerator.
     pub(crate) fn pair(&self, max: u32) -> (u32, u32)
         ensures rule { PairRule self.now max result.0 result.1 }
         ensures computed { result ≡ pair_of self.now max }
@@ -74,7 +77,7 @@ impl Left {
                 let best = search.nearest();
                 (best.denominator, search.numerator(best.denominator))
             }
-            None => (0, 0),
+            None => NO_PAIR,
         }
     }
 
@@ -158,9 +161,10 @@ impl Trial {
     fn tried(self) -> Tried
         ensures { result ≡ tried_at self.search.left self.denominator }
     {
+        let nearest = self.search.left.mclk as u64 * self.numerator();
         Tried {
             denominator: self.denominator,
-            miss: self.ahead.abs_diff(self.search.left.mclk as u64 * self.numerator()),
+            miss: self.ahead.abs_diff(nearest),
         }
     }
 }
