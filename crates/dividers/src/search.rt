@@ -102,14 +102,16 @@ impl Search {
     {
         let mut trial = self.first_trial();
         let mut best = trial.tried();
-        while best.miss > 0 && trial.denominator < self.max {
+        loop {
+            if best.miss == 0 || trial.denominator >= self.max {
+                break best;
+            }
             trial = trial.next();
             let tried = trial.tried();
             if tried.miss < best.miss {
                 best = tried;
             }
         }
-        best
     }
 
     // The first denominator on trial.
