@@ -4,7 +4,7 @@ ghost use Rattle.plans.specs.Lines.{reading_of};
 ghost use Rattle.plans.specs.Outcomes.{outcome_of};
 
 use crate::words::{add, add_cause, add_plan, chip_name};
-use plans::{Ask, Outcome, Reading, Tally, Unread, chips, read_line};
+use plans::{Ask, Outcome, Tally, Unread, chips, read_line};
 use std::alloc::{AllocError, Global};
 
 /// A line's outcome, with the text to show for it.
@@ -20,12 +20,12 @@ pub fn answer_line(heap: Global, number: u64, line: &[u8]) -> Result<Answer, All
 {
     let reading = read_line(line);
     let text = match reading {
-        Reading::Nothing => String::new(heap),
-        Reading::Plan(ask) => plans_text(heap, ask)?,
-        Reading::Not(unread) => unread_text(heap, number, line, unread)?,
+        Ok(None) => String::new(heap),
+        Ok(Some(ask)) => plans_text(heap, ask)?,
+        Err(unread) => unread_text(heap, number, line, unread)?,
     };
     Ok(Answer {
-        outcome: reading.outcome(),
+        outcome: Outcome::of(reading),
         text,
     })
 }

@@ -1,6 +1,6 @@
 //! Plans and faults in words, added to a text.
 use dividers::{ConfigError, I2sClockDividers, I2sMclkDividers};
-use plans::{Ask, Chip, ChipName, Fault, Lack, MOST_FRAME, Number, Plan, Unread};
+use plans::{Ask, Chip, ChipName, Fault, Lack, MOST_FRAME, NoPlan, Number, Plan, Unread};
 use std::alloc::{AllocError, Global};
 
 pub(crate) fn chip_name(name: ChipName) -> &'static str {
@@ -58,16 +58,18 @@ pub(crate) fn add_plan(
     text: &mut String,
     chip: &Chip,
     ask: Ask,
-    plan: Plan,
+    plan: Result<Plan, NoPlan>,
 ) -> Result<(), AllocError> {
     match plan {
-        Plan::Whole(dividers) => add_dividers(heap, text, dividers),
-        Plan::Split(dividers, split) => {
-            add_dividers(heap, text, dividers)?;
-            add_split(heap, text, split)
+        Ok(plan) => {
+            add_dividers(heap, text, plan.dividers)?;
+            match plan.split {
+                Some(split) => add_split(heap, text, split),
+                None => Ok(()),
+            }
         }
-        Plan::Refused(error, fault) => add_refusal(heap, text, chip, error, fault),
-        Plan::NoSetUp(lack) => add_lack(heap, text, chip, ask, lack),
+        Err(NoPlan::Refused(error, fault)) => add_refusal(heap, text, chip, error, fault),
+        Err(NoPlan::NoSetUp(lack)) => add_lack(heap, text, chip, ask, lack),
     }
 }
 

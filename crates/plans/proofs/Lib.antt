@@ -1,4 +1,3 @@
-pub mod Values
-pub mod Any
+pub mod Digits
 pub mod Said
 pub mod Written

@@ -16,7 +16,7 @@ use Rattle.plans.specs.Plans.{Blames, Divides, Says, chip_plan, clock_plan, plan
 module _ (chip : Chip) (ask : Ask) where
   split_says : (d : I2sClockDividers) → Divides chip ask d → chip.splits ≡ true → (r : Result I2sMclkDividers ConfigError)
       → split_answer d.denominator d.numerator ≡ r → Says chip ask (split_plan d r)
-  split_says d h splits (Ok s) e = (h, splits, e)
+  split_says d h splits (Ok s) e = (h, (splits, e))
   split_says d h splits (Err x) e = (h.set_up, (d, h, splits, refl, refl, e))
 
   planned_says : (d : I2sClockDividers) → lack_of chip ask ≡ None → answer_of ask.rate ask.slots ask.bits chip.max ≡ Ok d

@@ -4,9 +4,9 @@
 --     fault_of ask           which clock is out of range
 --     Says chip ask plan     what a plan says: that its dividers are those of what is asked and the chip takes them, or what
 --                            is out of range, or what the chip lacks
---     is_planned plan        whether there are dividers
---     any_planned chips ask  whether one of the chips has some
-use Rattle.std.specs.Prelude.{◌≡◌, max, Bool, true, false, cond, ◌||◌, List, [], ◌∷◌, Some, None, Ok, Err, Option, Result, ◌==◌}
+--     any_planned chips ask  whether one of the chips has a plan
+use Rattle.std.specs.Prelude.{◌≡◌, max, Bool, true, false, cond, List, Some, None, Ok, Err, Option, Result, ◌==◌, is_ok}
+use Rattle.std.specs.List.{list_any}
 use Rattle.dividers.specs.declared.dividers.I2sClockDividers.{I2sClockDividers}
 use Rattle.dividers.specs.declared.error.ConfigError.{ConfigError}
 use Rattle.dividers.specs.declared.error.ConfigError.TheVariants.{ClockOutOfReach}
@@ -18,8 +18,9 @@ use Rattle.plans.specs.declared.targets.Chip.{Chip}
 use Rattle.plans.specs.declared.targets.Lack.{Lack}
 use Rattle.plans.specs.declared.planning.Fault.{Fault}
 use Rattle.plans.specs.declared.planning.Fault.TheVariants.{NoRate, Clock, IntegerPart, Pair}
+use Rattle.plans.specs.declared.planning.NoPlan.{NoPlan}
+use Rattle.plans.specs.declared.planning.NoPlan.TheVariants.{Refused, NoSetUp}
 use Rattle.plans.specs.declared.planning.Plan.{Plan}
-use Rattle.plans.specs.declared.planning.Plan.TheVariants.{Whole, Split, Refused, NoSetUp}
 use Rattle.plans.specs.declared.read.Ask.{Ask}
 use Rattle.plans.specs.Chips.{lack_of}
 
@@ -27,25 +28,25 @@ abbrev pub fault_of : Ask → Fault
 fault_of ask =
     cond (ask.rate == 0) NoRate (Clock (max (mclk_of ask.rate ask.bits) (bclk_of ask.rate ask.slots ask.bits)))
 
-abbrev pub split_plan : I2sClockDividers → Result I2sMclkDividers ConfigError → Plan
-split_plan d (Ok s) = Split d s
-split_plan d (Err e) = Refused e (Pair d.denominator d.numerator)
+abbrev pub split_plan : I2sClockDividers → Result I2sMclkDividers ConfigError → Result Plan NoPlan
+split_plan d (Ok s) = Ok (record { dividers = d; split = Some s })
+split_plan d (Err e) = Err (Refused e (Pair d.denominator d.numerator))
 
-abbrev pub planned_of : Chip → I2sClockDividers → Plan
+abbrev pub planned_of : Chip → I2sClockDividers → Result Plan NoPlan
 planned_of chip d =
     cond (within_range d.mclk_divider chip.range.least chip.range.most)
-    (cond chip.splits (split_plan d (split_answer d.denominator d.numerator)) (Whole d))
-    (Refused ClockOutOfReach (IntegerPart d.mclk_divider))
+    (cond chip.splits (split_plan d (split_answer d.denominator d.numerator)) (Ok (record { dividers = d; split = None })))
+    (Err (Refused ClockOutOfReach (IntegerPart d.mclk_divider)))
 
-abbrev pub clock_plan : Chip → Ask → Result I2sClockDividers ConfigError → Plan
+abbrev pub clock_plan : Chip → Ask → Result I2sClockDividers ConfigError → Result Plan NoPlan
 clock_plan chip ask (Ok d) = planned_of chip d
-clock_plan chip ask (Err e) = Refused e (fault_of ask)
+clock_plan chip ask (Err e) = Err (Refused e (fault_of ask))
 
-abbrev pub chip_plan : Chip → Ask → Option Lack → Plan
-chip_plan chip ask (Some lack) = NoSetUp lack
+abbrev pub chip_plan : Chip → Ask → Option Lack → Result Plan NoPlan
+chip_plan chip ask (Some lack) = Err (NoSetUp lack)
 chip_plan chip ask None = clock_plan chip ask (answer_of ask.rate ask.slots ask.bits chip.max)
 
-abbrev pub plan_of : Chip → Ask → Plan
+abbrev pub plan_of : Chip → Ask → Result Plan NoPlan
 plan_of chip ask = chip_plan chip ask (lack_of chip ask)
 
 -- dividers of what is asked, which the chip takes
@@ -67,19 +68,16 @@ Blames chip ask e (Pair a n) =
     (d : I2sClockDividers) × Divides chip ask d × (chip.splits ≡ true) × (a ≡ d.denominator) × (n ≡ d.numerator)
     × (split_answer a n ≡ Err e)
 
--- what a plan says of the chip and of what is asked
-abbrev pub Says : Chip → Ask → Plan → Type 0
-Says chip ask (Whole d) = Divides chip ask d × (chip.splits ≡ false)
-Says chip ask (Split d s) = Divides chip ask d × (chip.splits ≡ true) × (split_answer d.denominator d.numerator ≡ Ok s)
-Says chip ask (Refused e f) = (lack_of chip ask ≡ None) × Blames chip ask e f
-Says chip ask (NoSetUp l) = lack_of chip ask ≡ Some l
+-- whether the pair is stored split, and how
+abbrev pub Splits : Chip → I2sClockDividers → Option I2sMclkDividers → Type 0
+Splits chip d None = chip.splits ≡ false
+Splits chip d (Some s) = (chip.splits ≡ true) × (split_answer d.denominator d.numerator ≡ Ok s)
 
-abbrev pub is_planned : Plan → Bool
-is_planned (Whole d) = true
-is_planned (Split d s) = true
-is_planned (Refused e f) = false
-is_planned (NoSetUp l) = false
+-- what a plan says of the chip and of what is asked
+abbrev pub Says : Chip → Ask → Result Plan NoPlan → Type 0
+Says chip ask (Ok p) = Divides chip ask p.dividers × Splits chip p.dividers p.split
+Says chip ask (Err (Refused e f)) = (lack_of chip ask ≡ None) × Blames chip ask e f
+Says chip ask (Err (NoSetUp l)) = lack_of chip ask ≡ Some l
 
 abbrev pub any_planned : List Chip → Ask → Bool
-any_planned [] ask = false
-any_planned (chip ∷ chips) ask = is_planned (plan_of chip ask) || any_planned chips ask
+any_planned chips ask = list_any (λ chip. is_ok (plan_of chip ask)) chips

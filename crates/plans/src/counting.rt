@@ -51,16 +51,16 @@ impl Tally {
     }
 }
 
-impl Reading {
+impl Outcome {
     /// What comes of a line that is read so.
-    pub fn outcome(self) -> Outcome
-        ensures { result ≡ outcome_of self }
+    pub fn of(reading: Reading) -> Outcome
+        ensures { result ≡ outcome_of reading }
     {
-        match self {
-            Reading::Nothing => Outcome::Passed,
-            Reading::Plan(ask) if any_planned(ask) => Outcome::Planned,
-            Reading::Plan(_) => Outcome::Refused,
-            Reading::Not(_) => Outcome::Unread,
+        match reading {
+            Ok(None) => Outcome::Passed,
+            Ok(Some(ask)) if any_planned(ask) => Outcome::Planned,
+            Ok(Some(_)) => Outcome::Refused,
+            Err(_) => Outcome::Unread,
         }
     }
 }

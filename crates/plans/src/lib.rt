@@ -7,6 +7,6 @@ mod read;
 mod targets;
 
 pub use counting::{Outcome, Tally};
-pub use planning::{Fault, Plan};
+pub use planning::{Fault, NoPlan, Plan};
 pub use read::{Ask, Number, Reading, Unread, first_line, read_line};
 pub use targets::{Chip, ChipName, Lack, MOST_FRAME, chips};

@@ -1,7 +1,7 @@
 //! The plan of one chip for one rate, slot count and data width.
 ghost use Rattle.std.specs.Prelude.{◌≡◌};
 ghost use Rattle.plans.specs.Chips.{chips_known};
-ghost use Rattle.plans.specs.Plans.{Says, any_planned, fault_of, is_planned, plan_of, planned_of};
+ghost use Rattle.plans.specs.Plans.{Says, any_planned, fault_of, plan_of};
 
 use crate::read::Ask;
 use crate::targets::{Chip, Lack, chips};
@@ -20,32 +20,25 @@ pub enum Fault {
     Pair(u32, u32),
 }
 
+/// Dividers that a chip takes.
 #[derive(Clone, Copy)]
-pub enum Plan {
-    /// Dividers whose pair the chip stores as it is.
-    Whole(I2sClockDividers),
-    /// Dividers whose pair the chip stores split.
-    Split(I2sClockDividers, I2sMclkDividers),
+pub struct Plan {
+    pub dividers: I2sClockDividers,
+    /// The parts of the pair, on a chip that stores it split.
+    pub split: Option<I2sMclkDividers>,
+}
+
+/// Why a chip has no plan.
+#[derive(Clone, Copy)]
+pub enum NoPlan {
     Refused(ConfigError, Fault),
     /// The chip has no such set-up.
     NoSetUp(Lack),
 }
 
-impl Plan {
-    /// Whether there are dividers.
-    pub fn is_planned(&self) -> bool
-        ensures { result ≡ is_planned self.now }
-    {
-        match self {
-            Plan::Whole(_) | Plan::Split(_, _) => true,
-            Plan::Refused(_, _) | Plan::NoSetUp(_) => false,
-        }
-    }
-}
-
 impl Chip {
     /// The chip's plan.
-    pub fn plan(&self, ask: Ask) -> Plan
+    pub fn plan(&self, ask: Ask) -> Result<Plan, NoPlan>
         ensures says { Says self.now ask result }
         ensures computed { result ≡ plan_of self.now ask }
     {
@@ -53,35 +46,27 @@ impl Chip {
     }
 
     // The plan, step by step.
-    fn plan_for(&self, ask: Ask) -> Plan
+    fn plan_for(&self, ask: Ask) -> Result<Plan, NoPlan>
         ensures { result ≡ plan_of self.now ask }
     {
         if let Some(lack) = self.lacks(ask) {
-            return Plan::NoSetUp(lack);
+            return Err(NoPlan::NoSetUp(lack));
         }
-        match I2sClockDividers::new(Rate::from_hz(ask.rate), ask.slots, ask.bits, self.max) {
-            Ok(dividers) => self.planned(dividers),
-            Err(error) => Plan::Refused(error, clock_fault(ask)),
-        }
-    }
-
-    // The plan of dividers, if the chip takes them.
-    fn planned(&self, dividers: I2sClockDividers) -> Plan
-        ensures { result ≡ planned_of self.now dividers }
-    {
-        if let Err(error) = dividers.within(self.range) {
-            return Plan::Refused(error, Fault::IntegerPart(dividers.mclk_divider));
-        }
-        if !self.splits {
-            return Plan::Whole(dividers);
-        }
-        match dividers.mclk_dividers() {
-            Ok(split) => Plan::Split(dividers, split),
-            Err(error) => Plan::Refused(
-                error,
-                Fault::Pair(dividers.denominator, dividers.numerator),
-            ),
-        }
+        let rate = Rate::from_hz(ask.rate);
+        let found = I2sClockDividers::new(rate, ask.slots, ask.bits, self.max);
+        let dividers = found.map_err(|error| NoPlan::Refused(error, clock_fault(ask)))?;
+        let fault = Fault::IntegerPart(dividers.mclk_divider);
+        dividers
+            .within(self.range)
+            .map_err(|error| NoPlan::Refused(error, fault))?;
+        let split = if self.splits {
+            let fault = Fault::Pair(dividers.denominator, dividers.numerator);
+            let found = dividers.mclk_dividers();
+            Some(found.map_err(|error| NoPlan::Refused(error, fault))?)
+        } else {
+            None
+        };
+        Ok(Plan { dividers, split })
     }
 }
 
@@ -101,11 +86,5 @@ fn clock_fault(ask: Ask) -> Fault
 pub(crate) fn any_planned(ask: Ask) -> bool
     ensures { result ≡ any_planned chips_known ask }
 {
-    let known = chips();
-    for chip in &known {
-        if chip.plan(ask).is_planned() {
-            return true;
-        }
-    }
-    false
+    chips().iter().any(|chip| chip.plan(ask).is_ok())
 }

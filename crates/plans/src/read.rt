@@ -1,6 +1,9 @@
 //! Lines of text: which of them ask for a plan, and what they ask.
-ghost use Rattle.std.specs.Prelude.{◌≡◌, ◌≤◌, length};
-ghost use Rattle.plans.specs.Lines.{ReadsWritten, ask_of, is_of, leading_of, line_in, number_of, past_line, past_word, reading_of, value_of, word_in};
+ghost use Rattle.std.specs.Prelude.{◌≡◌, ◌<◌, ◌^◌, IsTrue, length, not, position};
+ghost use Rattle.std.specs.Option.{SomeIff};
+ghost use Rattle.plans.specs.Lines.{ReadsWritten, ask_of, is_blank, is_digits, is_line_feed, line_in, number_of, past_line, past_word, reading_of, value_of, word_in};
+
+use std::str;
 
 /// A rate in hertz, a number of slots and a number of data bits.
 #[derive(Clone, Copy)]
@@ -31,78 +34,61 @@ pub enum Unread {
     TooLarge(Number, u32),
 }
 
-/// What a line is.
-#[derive(Clone, Copy)]
-pub enum Reading {
-    /// It is blank, or a remark after a `#`.
-    Nothing,
-    /// It asks for a plan.
-    Plan(Ask),
-    /// It cannot be read.
-    Not(Unread),
-}
+/// What a line asks; nothing where it is blank, or a remark after a `#`.
+pub type Reading = Result<Option<Ask>, Unread>;
 
-// Kinds of bytes.
-#[derive(Clone, Copy)]
-pub enum Kind {
-    Blank,
-    Word,
-    Digit,
-    Line,
-}
-
-impl Kind {
-    fn has(self, byte: u8) -> bool
-        ensures { result ≡ is_of self byte }
-    {
-        match self {
-            Kind::Blank => byte == b' ' || byte == b'\t' || byte == b'\r',
-            Kind::Word => !(byte == b' ' || byte == b'\t' || byte == b'\r'),
-            Kind::Digit => byte >= b'0' && byte <= b'9',
-            Kind::Line => byte != b'\n',
-        }
-    }
-
-    // How many bytes of this kind a text begins with.
-    fn leading(self, text: &[u8]) -> usize
-        ensures count { result ≡ leading_of self text.now }
-        ensures within { result ≤ length text.now }
-    {
-        for (i, byte) in text.iter().enumerate() {
-            if !self.has(*byte) {
-                return i;
-            }
-        }
-        text.len()
-    }
-}
-
-// What a word of digits stands for, or some number above `most`.
-fn value(word: &[u8], most: u32) -> u64
-    ensures exact { value_of word.now ≤ most → result ≡ value_of word.now }
-    ensures above { result ≤ most → result ≡ value_of word.now }
+fn is_blank(byte: u8) -> bool
+    ensures { result ≡ is_blank byte }
 {
-    let mut sum = 0u64;
-    for byte in word {
-        if sum <= most as u64 {
-            sum = sum * 10 + byte.saturating_sub(b'0') as u64;
-        }
-    }
-    sum
+    matches!(byte, b' ' | b'\t' | b'\r')
+}
+
+fn is_digits(word: &[u8]) -> bool
+    ensures { result ≡ is_digits word.now }
+{
+    word.iter().all(u8::is_ascii_digit)
+}
+
+// What a word of digits stands for, if 32 bits hold it.
+fn value(digits: &[u8]) -> Option<u32>
+    requires some { 0 < length digits.now }
+    requires digits { IsTrue (is_digits digits.now) }
+    ensures { SomeIff result (value_of digits.now < 2 ^ 32) (value_of digits.now) }
+{
+    str::from_utf8(digits).unwrap().parse().ok()
 }
 
 // A word as a number of at most `most`; `what` is what it stands for.
 fn read_number(word: &[u8], what: Number, most: u32) -> Result<u32, Unread>
     ensures { result ≡ number_of word.now what most }
 {
-    if word.is_empty() || Kind::Digit.leading(word) < word.len() {
+    if word.is_empty() || !is_digits(word) {
         return Err(Unread::NotANumber(what));
     }
-    let n = value(word, most);
-    if n > most as u64 {
-        return Err(Unread::TooLarge(what, most));
-    }
-    Ok(n as u32)
+    value(word)
+        .filter(|n| *n <= most)
+        .ok_or(Unread::TooLarge(what, most))
+}
+
+// Where the first word of a text begins.
+fn word_start(text: &[u8]) -> Option<usize>
+    ensures { result ≡ position (λ b. not (is_blank b)) text.now }
+{
+    text.iter().position(|b| !is_blank(*b))
+}
+
+// Where the word at the head of a text ends, if anything follows it.
+fn word_end(text: &[u8]) -> Option<usize>
+    ensures { result ≡ position is_blank text.now }
+{
+    text.iter().position(|b| is_blank(*b))
+}
+
+// Where the first line of a text ends, if it has an end.
+fn line_end(text: &[u8]) -> Option<usize>
+    ensures { result ≡ position is_line_feed text.now }
+{
+    text.iter().position(|b| *b == b'\n')
 }
 
 // The first word of a text, empty where there is none, and what follows it.
@@ -110,8 +96,14 @@ fn first_word(text: &[u8]) -> (&[u8], &[u8])
     ensures word { result.0.now ≡ word_in text.now }
     ensures rest { result.1.now ≡ past_word text.now }
 {
-    let (_, text) = text.split_at(Kind::Blank.leading(text));
-    text.split_at(Kind::Word.leading(text))
+    let Some(start) = word_start(text) else {
+        return (&[], &[]);
+    };
+    let text = &text[start..];
+    match word_end(text) {
+        Some(end) => text.split_at(end),
+        None => (text, &[]),
+    }
 }
 
 /// The first line of a text without its end, and what follows that.
@@ -119,16 +111,14 @@ pub fn first_line(text: &[u8]) -> (&[u8], &[u8])
     ensures line { result.0.now ≡ line_in text.now }
     ensures rest { result.1.now ≡ past_line text.now }
 {
-    let (line, rest) = text.split_at(Kind::Line.leading(text));
-    if rest.is_empty() {
-        return (line, rest);
+    match line_end(text) {
+        Some(end) => (&text[..end], &text[end + 1..]),
+        None => (text, &[]),
     }
-    let (_, after) = rest.split_at(1);
-    (line, after)
 }
 
-/// What a line is, by its words.
-pub fn read_line(line: &[u8]) -> Reading
+/// What a line asks, by its words.
+pub fn read_line(line: &[u8]) -> Result<Option<Ask>, Unread>
     ensures written { ReadsWritten line.now result }
     ensures computed { result ≡ reading_of line.now }
 {
@@ -136,26 +126,23 @@ pub fn read_line(line: &[u8]) -> Reading
 }
 
 // The same, word by word.
-fn read_words(line: &[u8]) -> Reading
+fn read_words(line: &[u8]) -> Result<Option<Ask>, Unread>
     ensures { result ≡ reading_of line.now }
 {
     let (rate, rest) = first_word(line);
-    if rate.is_empty() || rate[0] == b'#' {
-        return Reading::Nothing;
+    if matches!(rate.first(), None | Some(b'#')) {
+        return Ok(None);
     }
     let (slots, rest) = first_word(rest);
     let (bits, rest) = first_word(rest);
     if bits.is_empty() {
-        return Reading::Not(Unread::Short);
+        return Err(Unread::Short);
     }
     let (more, _) = first_word(rest);
     if !more.is_empty() {
-        return Reading::Not(Unread::Long);
+        return Err(Unread::Long);
     }
-    match read_ask(rate, slots, bits) {
-        Ok(ask) => Reading::Plan(ask),
-        Err(unread) => Reading::Not(unread),
-    }
+    Ok(Some(read_ask(rate, slots, bits)?))
 }
 
 // The three numbers, or the first that is none.

@@ -73,10 +73,15 @@ impl Chip {
     pub fn lacks(&self, ask: Ask) -> Option<Lack>
         ensures { result ≡ lack_of self.now ask }
     {
-        if ask.slots < self.least_slots || ask.slots > self.most_slots {
+        if !(self.least_slots..=self.most_slots).contains(&ask.slots) {
             return Some(Lack::Slots);
         }
-        if ask.bits != 16 && ask.bits != 32 && !(ask.bits == 8 && self.eight_bits) {
+        let has_bits = match ask.bits {
+            16 | 32 => true,
+            8 => self.eight_bits,
+            _ => false,
+        };
+        if !has_bits {
             return Some(Lack::Bits);
         }
         let frame = ask.slots as u32 * ask.bits as u32;
