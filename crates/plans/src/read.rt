@@ -3,7 +3,8 @@ ghost use Rattle.std.specs.Prelude.{◌≡◌, ◌<◌, ◌^◌, IsTrue, length,
 ghost use Rattle.std.specs.Option.{SomeIff};
 ghost use Rattle.plans.specs.Lines.{ReadsWritten, ask_of, is_blank, is_digits, is_line_feed, line_in, number_of, past_line, past_word, reading_of, value_of, word_in};
 
-use std::str;
+use std::error::Error;
+use std::{fmt, str};
 
 /// A rate in hertz, a number of slots and a number of data bits.
 #[derive(Clone, Copy)]
@@ -14,15 +15,25 @@ pub struct Ask {
 }
 
 /// Which of the three numbers.
-#[derive(Clone, Copy)]
+#[derive(Clone, Copy, Debug, PartialEq, Eq)]
 pub enum Number {
     Rate,
     Slots,
     Bits,
 }
 
+impl fmt::Display for Number {
+    fn fmt<W: fmt::Write>(&self, f: &mut fmt::Formatter<W>) -> fmt::Result {
+        f.write_str(match self {
+            Number::Rate => "rate",
+            Number::Slots => "number of slots",
+            Number::Bits => "number of bits",
+        })
+    }
+}
+
 /// Why a line is not read.
-#[derive(Clone, Copy)]
+#[derive(Clone, Copy, Debug, PartialEq, Eq)]
 pub enum Unread {
     /// There are fewer than three words.
     Short,
@@ -33,6 +44,19 @@ pub enum Unread {
     /// A number is above what it may be.
     TooLarge(Number, u32),
 }
+
+impl fmt::Display for Unread {
+    fn fmt<W: fmt::Write>(&self, f: &mut fmt::Formatter<W>) -> fmt::Result {
+        match self {
+            Unread::Short => f.write_str("it has fewer than three words"),
+            Unread::Long => f.write_str("it has more than three words"),
+            Unread::NotANumber(what) => write!(f, "the {what} is not a whole number"),
+            Unread::TooLarge(what, most) => write!(f, "the {what} is above {most}"),
+        }
+    }
+}
+
+impl Error for Unread {}
 
 /// What a line asks; nothing where it is blank, or a remark after a `#`.
 pub type Reading = Result<Option<Ask>, Unread>;

@@ -4,11 +4,21 @@ ghost use Rattle.plans.specs.Chips.{chips_known, lack_of};
 
 use crate::read::Ask;
 use dividers::DividerRange;
+use std::fmt;
 
-#[derive(Clone, Copy)]
+#[derive(Clone, Copy, Debug, PartialEq, Eq)]
 pub enum ChipName {
     Esp32,
     Esp32C3,
+}
+
+impl fmt::Display for ChipName {
+    fn fmt<W: fmt::Write>(&self, f: &mut fmt::Formatter<W>) -> fmt::Result {
+        f.write_str(match self {
+            ChipName::Esp32 => "ESP32",
+            ChipName::Esp32C3 => "ESP32-C3",
+        })
+    }
 }
 
 /// What a chip can divide by, and which set-ups it has.
