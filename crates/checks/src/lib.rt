@@ -13,36 +13,23 @@ mod tests {
     use plans::Tally;
     use std::test::Fail;
 
-    // Rate, channels, bits, MAX; integer part, bit divider, denominator, numerator.
-    const ANSWERS: [[u32; 8]; 7] = [
-        [44_100, 2, 16, 63, 14, 8, 29, 5],
-        [44_100, 2, 16, 511, 14, 8, 441, 76],
-        [44_100, 2, 16, u32::MAX, 14, 8, 441, 76],
-        [44_100, 2, 16, 2, 14, 8, 2, 0],
-        [44_100, 2, 16, 1, 14, 8, 0, 0],
-        [44_100, 2, 16, 0, 14, 8, 0, 0],
-        [48_000, 2, 24, 63, 17, 4, 36, 13],
+    // Rate, channels, bits and MAX; integer part, bit divider, denominator and numerator.
+    const ANSWERS: [(u32, u8, u8, u32, [u32; 4]); 7] = [
+        (44_100, 2, 16, 63, [14, 8, 29, 5]),
+        (44_100, 2, 16, 511, [14, 8, 441, 76]),
+        (44_100, 2, 16, u32::MAX, [14, 8, 441, 76]),
+        (44_100, 2, 16, 2, [14, 8, 2, 0]),
+        (44_100, 2, 16, 1, [14, 8, 0, 0]),
+        (44_100, 2, 16, 0, [14, 8, 0, 0]),
+        (48_000, 2, 24, 63, [17, 4, 36, 13]),
     ];
 
     #[test]
     fn dividers_are_found(rt: HostRuntime) -> Result<(), Fail> {
-        for [
-            rate,
-            channels,
-            bits,
-            max,
-            integer,
-            bit,
-            denominator,
-            numerator,
-        ] in ANSWERS {
-            let channels = u8::try_from(channels)?;
-            let bits = u8::try_from(bits)?;
+        for (rate, channels, bits, max, numbers) in ANSWERS {
             let d = I2sClockDividers::new(Rate::from_hz(rate), channels, bits, max)?;
-            assert_eq!(rt; d.mclk_divider, integer);
-            assert_eq!(rt; d.bclk_divider, bit);
-            assert_eq!(rt; d.denominator, denominator);
-            assert_eq!(rt; d.numerator, numerator);
+            let found = [d.mclk_divider, d.bclk_divider, d.denominator, d.numerator];
+            assert_eq!(rt; found, numbers);
         }
         Ok(())
     }
@@ -60,10 +47,8 @@ mod tests {
     #[test]
     fn clocks_out_of_range_are_refused(rt: HostRuntime) -> Result<(), Fail> {
         for (rate, channels, bits) in REFUSED {
-            match I2sClockDividers::new(Rate::from_hz(rate), channels, bits, 63) {
-                Ok(_) => return Err(Fail::new("accepted")),
-                Err(e) => assert_eq!(rt; e, ConfigError::RateOutOfRange),
-            }
+            let answer = I2sClockDividers::new(Rate::from_hz(rate), channels, bits, 63);
+            assert_eq!(rt; answer.err(), Some(ConfigError::RateOutOfRange));
         }
         Ok(())
     }
@@ -71,13 +56,8 @@ mod tests {
     #[test]
     fn a_pair_of_one_is_not_split(rt: HostRuntime) -> Result<(), Fail> {
         let d = I2sClockDividers::new(Rate::from_hz(41_694), 2, 16, 63)?;
-        match d.mclk_dividers() {
-            Ok(_) => Err(Fail::new("split")),
-            Err(e) => {
-                assert_eq!(rt; e, ConfigError::ClockOutOfReach);
-                Ok(())
-            },
-        }
+        assert_eq!(rt; d.mclk_dividers().err(), Some(ConfigError::ClockOutOfReach));
+        Ok(())
     }
 
     const UNREAD: &str =

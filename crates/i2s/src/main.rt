@@ -3,7 +3,7 @@
 
 use answers::{answer_line, summary};
 use anyhow::anyhow;
-use plans::{Tally, first_line};
+use plans::{Lines, Tally};
 use std::io::{BufWriter, Read, Write};
 use std::{env, fs, io};
 
@@ -18,13 +18,7 @@ i2s help            say this
 fn plan_clocks(rt: &HostRuntime, input: &[u8]) -> io::Result<()> {
     let mut out = BufWriter::new(rt.alloc(), rt.stdout())?;
     let mut tally = Tally::new();
-    let mut rest = input;
-    for number in 1..u64::MAX {
-        if rest.is_empty() {
-            break;
-        }
-        let (line, after) = first_line(rest);
-        rest = after;
+    for (number, line) in (1..u64::MAX).zip(Lines::new(input)) {
         let answer = answer_line(rt.alloc(), number, line)?;
         tally.count(answer.outcome);
         out.write_all(answer.text.as_bytes())?;
@@ -59,15 +53,13 @@ fn main(rt: HostRuntime) -> anyhow::Result<()> {
     let mut args = env::args(&rt)?;
     let _ = args.next();
     let command = args.next();
-    let path = match args.next() {
-        Some(path) => path,
-        None => String::from_str(rt.alloc(), "-")?,
-    };
+    let file = args.next();
     let more = args.next().is_some();
-    match command {
-        Some(word) if word.as_str() == "clocks" && !more => clocks(&rt, path.as_str()),
-        Some(word) if word.as_str() == "help" => Ok(print!(rt; "{HELP}")?),
-        Some(word) if word.as_str() == "clocks" => {
+    let path = file.as_ref().map_or("-", |path| path.as_str());
+    match command.as_ref().map(|word| word.as_str()) {
+        Some("clocks") if !more => clocks(&rt, path),
+        Some("help") => Ok(print!(rt; "{HELP}")?),
+        Some("clocks") => {
             eprint!(rt; "i2s clocks: one file at most\n{HELP}")?;
             Err(anyhow!("usage"))
         }

@@ -1,100 +1,58 @@
 //! Replays answers of the published Rust, a line each, and says where the port agrees with them.
 #![tactic(auto)]
 
-use dividers::{I2sClockDividers, I2sMclkDividers, Rate};
+use dividers::{I2sClockDividers, Rate};
 use std::io;
 
-// RATE CHANNELS BITS MAX, what the Rust did, and its numbers
-const WORDS_OF_PANIC: usize = 5;
-
-const WORDS_OF_ANSWER: usize = 13;
-
-// What a line shows of the port.
-#[derive(Clone, Copy, PartialEq, Eq)]
-enum Finding {
+// How the port agrees with a line.
+#[derive(Clone, Copy)]
+enum Agreement {
     /// The same numbers.
     Same,
     /// Another pair where the Rust's products were cut.
     BetterPair,
     /// Refused where the Rust panics.
     Refused,
-    /// Anything else.
-    Disagrees,
 }
 
-fn number(word: &str) -> Option<u32> {
-    match word.parse::<u32>() {
-        Ok(n) => Some(n),
-        Err(_) => None,
+fn is(word: &str, n: u32) -> bool {
+    word.parse().ok() == Some(n)
+}
+
+// Whether the words are the parts of the split, or dashes where the Rust has none.
+fn same_split(words: [&str; 4], dividers: I2sClockDividers) -> bool {
+    let [x, y, z, yn1] = words;
+    match dividers.mclk_dividers() {
+        Ok(split) if x != "-" => {
+            is(x, split.x) && is(y, split.y) && is(z, split.z) && is(yn1, u32::from(split.yn1))
+        }
+        _ => words.iter().all(|word| *word == "-"),
     }
 }
 
-fn byte(word: &str) -> Option<u8> {
-    match word.parse::<u8>() {
-        Ok(n) => Some(n),
-        Err(_) => None,
-    }
-}
-
-// Whether the four words are the parts of the split, or dashes where the Rust has none.
-fn same_split(words: &[&str], dividers: &I2sClockDividers) -> bool {
-    let [x, y, z, yn1] = words else {
-        return false;
+// The words are RATE CHANNELS BITS MAX, what the Rust did, and its numbers.
+fn compare(words: &[&str]) -> Option<Agreement> {
+    let [rate, channels, bits, max, rust, numbers @ ..] = words else {
+        return None;
     };
-    if *x == "-" && *y == "-" && *z == "-" && *yn1 == "-" {
-        return true;
-    }
-    let Ok(
-        I2sMclkDividers {
-            x: port_x,
-            y: port_y,
-            z: port_z,
-            yn1: port_yn1,
-        },
-    ) = dividers.mclk_dividers()
-    else {
-        return false;
+    let rate = Rate::from_hz(rate.parse().ok()?);
+    let channels = channels.parse().ok()?;
+    let bits = bits.parse().ok()?;
+    let max = max.parse().ok()?;
+    let Ok(dividers) = I2sClockDividers::new(rate, channels, bits, max) else {
+        return (*rust == "panics").then_some(Agreement::Refused);
     };
-    number(x) == Some(port_x)
-        && number(y) == Some(port_y)
-        && number(z) == Some(port_z)
-        && number(yn1) == Some(u32::from(port_yn1))
-}
-
-fn hold_to(words: &[&str]) -> Finding {
-    if words.len() < WORDS_OF_PANIC {
-        return Finding::Disagrees;
-    }
-    let (Some(rate), Some(channels), Some(bits), Some(max)) = (
-        number(words[0]),
-        byte(words[1]),
-        byte(words[2]),
-        number(words[3]),
-    ) else {
-        return Finding::Disagrees;
+    let [integer, bit, denominator, numerator, x, y, z, yn1] = numbers else {
+        return None;
     };
-    let answer = I2sClockDividers::new(Rate::from_hz(rate), channels, bits, max);
-    let Ok(dividers) = answer else {
-        return if words[4] == "panics" {
-            Finding::Refused
-        } else {
-            Finding::Disagrees
-        };
-    };
-    if words.len() != WORDS_OF_ANSWER
-        || number(words[5]) != Some(dividers.mclk_divider)
-        || number(words[6]) != Some(dividers.bclk_divider)
-    {
-        return Finding::Disagrees;
+    if !is(integer, dividers.mclk_divider) || !is(bit, dividers.bclk_divider) {
+        return None;
     }
-    let same_pair = number(words[7]) == Some(dividers.denominator)
-        && number(words[8]) == Some(dividers.numerator);
-    if words[4] == "same" && same_pair && same_split(&words[9..13], &dividers) {
-        Finding::Same
-    } else if words[4] == "cut" && !same_pair {
-        Finding::BetterPair
-    } else {
-        Finding::Disagrees
+    let same_pair = is(denominator, dividers.denominator) && is(numerator, dividers.numerator);
+    match *rust {
+        "same" if same_pair && same_split([x, y, z, yn1], dividers) => Some(Agreement::Same),
+        "cut" if !same_pair => Some(Agreement::BetterPair),
+        _ => None,
     }
 }
 
@@ -109,11 +67,11 @@ fn main(rt: HostRuntime) -> io::Result<()> {
             continue;
         }
         let words: Vec<&str> = line.as_str().split_whitespace().collect(rt.alloc())?;
-        match hold_to(words.as_slice()) {
-            Finding::Same => same = same.saturating_add(1),
-            Finding::BetterPair => better = better.saturating_add(1),
-            Finding::Refused => refused = refused.saturating_add(1),
-            Finding::Disagrees => {
+        match compare(words.as_slice()) {
+            Some(Agreement::Same) => same = same.saturating_add(1),
+            Some(Agreement::BetterPair) => better = better.saturating_add(1),
+            Some(Agreement::Refused) => refused = refused.saturating_add(1),
+            None => {
                 disagrees = disagrees.saturating_add(1);
                 println!(rt; "disagrees: {line}")?;
             }

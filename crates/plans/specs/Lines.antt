@@ -3,14 +3,18 @@
 --     value_of bs             what a word of digits stands for
 --     word_in, past_word      the first word of a text, and what follows it
 --     line_in, past_line      the first line of a text, and what follows its end
+--     text_left lines         what the lines are still to be taken from
+--     TakesLine text r rest   the first line of a text is taken, or there is none
 --     number_of bs what most  a word as a number of at most `most`
 --     ask_of rate slots bits  the three numbers, or the first that is none
 --     reading_of line         what a line asks, if anything, or why it is not read
 --     ReadsWritten line r     what is written as three numbers is read as them
-use Rattle.std.specs.Prelude.{◌≡◌, ℕ, ◌+◌, ◌-◌, ◌*◌, ◌^◌, ◌<◌, Bool, cond, not, ◌||◌, List, ◌∷◌, ◌++◌, length, drop, Some, None, Ok, Err, decimal, fold, Option, Result, ◌==◌, nat_lt, slice_index}
+use Rattle.std.specs.Prelude.{◌≡◌, ℕ, ◌+◌, ◌-◌, ◌*◌, ◌^◌, ◌<◌, Bool, cond, not, ◌||◌, List, [], ◌∷◌, ◌++◌, length, drop, Some, None, Ok, Err, decimal, fold, Option, Result, ◌==◌, nat_lt, slice_index}
 use Rattle.std.specs.Char.{is_ascii_digit}
 use Rattle.std.specs.List.{list_all, position_or_len, before_first, after_first}
+use Rattle.std.specs.Borrow.{Bor}
 use Rattle.plans.specs.declared.read.Ask.{Ask}
+use Rattle.plans.specs.declared.read.Lines.{Lines}
 use Rattle.plans.specs.declared.read.Number.{Number}
 use Rattle.plans.specs.declared.read.Number.TheVariants.{Rate, Slots, Bits}
 use Rattle.plans.specs.declared.read.Unread.{Unread}
@@ -51,6 +55,13 @@ line_in text = before_first is_line_feed text
 
 abbrev pub past_line : List ℕ → List ℕ
 past_line text = after_first is_line_feed text
+
+abbrev pub text_left : Lines → List ℕ
+text_left lines = lines.text.now
+
+abbrev pub TakesLine : List ℕ → Option (Bor (List ℕ)) → List ℕ → Type 0
+TakesLine text None rest = (text ≡ []) × (rest ≡ [])
+TakesLine text (Some line) rest = (0 < length text) × (line.now ≡ line_in text) × (rest ≡ past_line text)
 
 abbrev asked : ℕ → ℕ → Result ℕ Unread → Result Ask Unread
 asked rate slots (Ok bits) = Ok (record { rate = rate; slots = slots; bits = bits })

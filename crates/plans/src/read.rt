@@ -1,7 +1,8 @@
 //! Lines of text: which of them ask for a plan, and what they ask.
 ghost use Rattle.std.specs.Prelude.{◌≡◌, ◌<◌, ◌^◌, IsTrue, length, not, position};
 ghost use Rattle.std.specs.Option.{SomeIff};
-ghost use Rattle.plans.specs.Lines.{ReadsWritten, ask_of, is_blank, is_digits, is_line_feed, line_in, number_of, past_line, past_word, reading_of, value_of, word_in};
+ghost use Rattle.std.specs.Iterator.{at_most};
+ghost use Rattle.plans.specs.Lines.{ReadsWritten, TakesLine, ask_of, is_blank, is_digits, is_line_feed, line_in, number_of, past_line, past_word, reading_of, text_left, value_of, word_in};
 
 use std::error::Error;
 use std::{fmt, str};
@@ -138,6 +139,37 @@ pub fn first_line(text: &[u8]) -> (&[u8], &[u8])
     match line_end(text) {
         Some(end) => (&text[..end], &text[end + 1..]),
         None => (text, &[]),
+    }
+}
+
+/// The lines of a text, in order, each without its end.
+#[derive(Drop)]
+pub struct Lines<'a> {
+    text: &'a [u8],
+}
+
+impl<'a> Lines<'a> {
+    pub fn new(text: &'a [u8]) -> Lines<'a>
+        ensures { text_left result ≡ text.now }
+    {
+        Lines { text }
+    }
+}
+
+impl<'a> Iterator for Lines<'a> {
+    type Item = &'a [u8];
+
+    ghost next_gives = { λ s line t. TakesLine (text_left s) line (text_left t) };
+
+    ghost remaining = { λ s. at_most (length (text_left s)) };
+
+    fn next(&mut self) -> Option<&'a [u8]> {
+        if self.text.is_empty() {
+            return None;
+        }
+        let (line, rest) = first_line(self.text);
+        self.text = rest;
+        Some(line)
     }
 }
 
