@@ -3,10 +3,10 @@ ghost use Rattle.std.specs.Prelude.{◌≡◌};
 ghost use Rattle.plans.specs.Outcomes.{outcome_of, counted, nothing_counted};
 
 use crate::planning::any_planned;
-use crate::read::Reading;
+use crate::read::{Ask, Unread};
 
 /// What came of a line.
-#[derive(Clone, Copy)]
+#[derive(Clone, Copy, PartialEq, Eq)]
 pub enum Outcome {
     /// It asks nothing.
     Passed,
@@ -19,7 +19,7 @@ pub enum Outcome {
 }
 
 /// How many lines were planned, refused and not read.
-#[derive(Clone, Copy)]
+#[derive(Clone, Copy, PartialEq, Eq)]
 pub struct Tally {
     pub planned: u64,
     pub refused: u64,
@@ -53,7 +53,7 @@ impl Tally {
 
 impl Outcome {
     /// What comes of a line that is read so.
-    pub fn of(reading: Reading) -> Outcome
+    pub fn of(reading: Result<Option<Ask>, Unread>) -> Outcome
         ensures { result ≡ outcome_of reading }
     {
         match reading {

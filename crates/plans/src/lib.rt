@@ -8,5 +8,5 @@ mod targets;
 
 pub use counting::{Outcome, Tally};
 pub use planning::{Fault, NoPlan, Plan};
-pub use read::{Ask, Lines, Number, Reading, Unread, first_line, read_line};
+pub use read::{Ask, Lines, Number, Unread, first_line, read_line};
 pub use targets::{Chip, ChipName, Lack, MOST_FRAME, chips};

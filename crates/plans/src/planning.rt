@@ -8,7 +8,7 @@ use crate::targets::{Chip, Lack, chips};
 use dividers::{ConfigError, I2sClockDividers, I2sMclkDividers, Rate, mclk_multiple};
 
 /// What is out of range where a plan is refused.
-#[derive(Clone, Copy)]
+#[derive(Clone, Copy, PartialEq, Eq)]
 pub enum Fault {
     /// The rate is 0.
     NoRate,
@@ -29,7 +29,7 @@ pub struct Plan {
 }
 
 /// Why a chip has no plan.
-#[derive(Clone, Copy)]
+#[derive(Clone, Copy, PartialEq, Eq)]
 pub enum NoPlan {
     Refused(ConfigError, Fault),
     /// The chip has no such set-up.

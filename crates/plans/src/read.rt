@@ -4,11 +4,10 @@ ghost use Rattle.std.specs.Option.{SomeIff};
 ghost use Rattle.std.specs.Iterator.{at_most};
 ghost use Rattle.plans.specs.Lines.{ReadsWritten, TakesLine, ask_of, is_blank, is_digits, is_line_feed, line_in, number_of, past_line, past_word, reading_of, text_left, value_of, word_in};
 
-use std::error::Error;
 use std::{fmt, str};
 
 /// A rate in hertz, a number of slots and a number of data bits.
-#[derive(Clone, Copy)]
+#[derive(Clone, Copy, PartialEq, Eq)]
 pub struct Ask {
     pub rate: u32,
     pub slots: u8,
@@ -16,7 +15,7 @@ pub struct Ask {
 }
 
 /// Which of the three numbers.
-#[derive(Clone, Copy, Debug, PartialEq, Eq)]
+#[derive(Clone, Copy, PartialEq, Eq)]
 pub enum Number {
     Rate,
     Slots,
@@ -34,7 +33,7 @@ impl fmt::Display for Number {
 }
 
 /// Why a line is not read.
-#[derive(Clone, Copy, Debug, PartialEq, Eq)]
+#[derive(Clone, Copy, PartialEq, Eq)]
 pub enum Unread {
     /// There are fewer than three words.
     Short,
@@ -56,11 +55,6 @@ impl fmt::Display for Unread {
         }
     }
 }
-
-impl Error for Unread {}
-
-/// What a line asks; nothing where it is blank, or a remark after a `#`.
-pub type Reading = Result<Option<Ask>, Unread>;
 
 fn is_blank(byte: u8) -> bool
     ensures { result ≡ is_blank byte }
@@ -173,7 +167,7 @@ impl<'a> Iterator for Lines<'a> {
     }
 }
 
-/// What a line asks, by its words.
+/// What a line asks, by its words; nothing where it is blank, or a remark after a `#`.
 pub fn read_line(line: &[u8]) -> Result<Option<Ask>, Unread>
     ensures written { ReadsWritten line.now result }
     ensures computed { result ≡ reading_of line.now }

@@ -6,7 +6,7 @@ use crate::read::Ask;
 use dividers::DividerRange;
 use std::fmt;
 
-#[derive(Clone, Copy, Debug, PartialEq, Eq)]
+#[derive(Clone, Copy, PartialEq, Eq)]
 pub enum ChipName {
     Esp32,
     Esp32C3,
@@ -38,7 +38,7 @@ pub struct Chip {
 }
 
 /// What no set-up of a chip has.
-#[derive(Clone, Copy)]
+#[derive(Clone, Copy, PartialEq, Eq)]
 pub enum Lack {
     /// So many slots.
     Slots,
