@@ -2,7 +2,7 @@
 use Rattle.std.proofs.Common.{◌≡◌, ℕ, ◌-◌, ◌^◌, ◌<◌, ◌≤◌, true, false, not, eqb, List, [], ◌∷◌, ◌++◌, length, get_or, take, drop, Ok, decimal, sym, refl, ap, ◌∙◌, append-nil, one-add, arith}
 use lib.Seq.{take-append_seam, drop-append_seam}
 use Rattle.std.proofs.lemmas.Fmt.{digits_decimal, digits_value-decimal, decimal_is_IsNumeral}
-use Rattle.std.proofs.lemmas.Bool.{and_parts}
+use Rattle.std.proofs.lemmas.Bool.{and_parts, ne_eqb}
 use Rattle.std.proofs.lemmas.Str.Parse.{not_in_digits}
 use Rattle.std.proofs.lemmas.Bool.Decides.{nat_tests}
 use Rattle.std.specs.Char.{is_ascii_digit}
@@ -28,8 +28,7 @@ digit_not_blank b d = grind (arith, nat_tests)
 word_ends : (w t : List ℕ) → is_digits w ≡ true → position_or_len is_blank t ≡ 0 → position_or_len is_blank (w ++ t) ≡ length w
 word_ends [] t d stop = stop
 word_ends (b ∷ w) t d stop =
-    let p = and_parts (is_ascii_digit b) (is_digits w) d in
-    let e = digit_not_blank b p.0 in let i = word_ends w t p.1 stop in grind (arith, e, i)
+    let digits = and_parts (is_ascii_digit b) (is_digits w) d in grind (arith, digit_not_blank b digits.0, word_ends w t digits.1 stop)
 
 -- a word of digits is the first word, up to a blank or the end
 module _ (w t : List ℕ) (d : is_digits w ≡ true) (some : 0 < length w) (stop : position_or_len is_blank t ≡ 0) where
@@ -37,13 +36,13 @@ module _ (w t : List ℕ) (d : is_digits w ≡ true) (some : 0 < length w) (stop
   starts = go w d some where
     go : (v : List ℕ) → is_digits v ≡ true → 0 < length v → past_blanks (v ++ t) ≡ v ++ t
     go [] e h = absurd (omega arith)
-    go (b ∷ v) e h = let n = digit_not_blank b (and_parts (is_ascii_digit b) (is_digits v) e).0 in grind (arith, nat_tests, n)
+    go (b ∷ v) e h = grind (arith, nat_tests, digit_not_blank b (and_parts (is_ascii_digit b) (is_digits v) e).0)
 
   first_word : word_in (w ++ t) ≡ w
-  first_word = let a = starts in let n = word_ends w t d stop in let k = take-append_seam w t in grind (arith, a, n, k)
+  first_word = grind (arith, starts, word_ends w t d stop, take-append_seam w t)
 
   past_word_lem : past_word (w ++ t) ≡ t
-  past_word_lem = let a = starts in let n = word_ends w t d stop in let k = drop-append_seam w t in grind (arith, a, n, k)
+  past_word_lem = grind (arith, starts, word_ends w t d stop, drop-append_seam w t)
 
 -- a space before a word is passed
 past_space : (bs : List ℕ) → past_blanks (32 ∷ bs) ≡ past_blanks bs
@@ -56,11 +55,11 @@ space_past : (bs : List ℕ) → past_word (32 ∷ bs) ≡ past_word bs
 space_past bs = ap (λ (cs : List ℕ). drop (position_or_len is_blank cs) cs) (past_space bs)
 
 reads : (w : List ℕ) (n most : ℕ) (what : Number) → Spelt n w → n ≤ most → number_of w what most ≡ Ok n
-reads w n most what h le = let a = h.some in let e = h.digits in let v = h.value in grind (arith, nat_tests, a, e, v)
+reads w n most what h le = grind (arith, nat_tests, h.some, h.digits, h.value)
 
 -- the first byte of a number begins no remark
 no_remark : (w : List ℕ) → is_digits w ≡ true → 0 < length w → eqb (get_or w 0 0) 35 ≡ false
-no_remark w d h = let n = not_in_digits numerals w 35 d (λ r. omega arith) 0 h in grind (arith, nat_tests)
+no_remark w d h = ne_eqb (get_or w 0 0) 35 (not_in_digits numerals w 35 d (λ r. omega arith) 0 h)
 
 -- three words of digits with a space between them, and what is read of them
 module _ (r s b : List ℕ) (i j k : ℕ) (hr : Spelt i r) (hs : Spelt j s) (hb : Spelt k b) where
@@ -86,10 +85,10 @@ module _ (r s b : List ℕ) (i j k : ℕ) (hr : Spelt i r) (hs : Spelt j s) (hb 
   word_4 = ap word_in past_3
 
   by_words : reading_of (r ++ (32 ∷ (s ++ (32 ∷ b)))) ≡ reading_by r s b []
-  by_words = let a = word_1 in let q = word_2 in let n = word_3 in let m = word_4 in cc
+  by_words = cc (word_1, word_2, word_3, word_4)
 
   three : reading_by r s b [] ≡ read_as (ask_of r s b)
-  three = let a = hr.some in let q = hb.some in let n = no_remark r hr.digits hr.some in grind (arith, nat_tests, a, q, n)
+  three = grind (arith, nat_tests, hr.some, hb.some, no_remark r hr.digits hr.some)
 
 pub reads_written : (line : List ℕ) → ReadsWritten line (reading_of line)
 reads_written line ask rate slots bits e =
@@ -97,7 +96,7 @@ reads_written line ask rate slots bits e =
     let hs = spelt ask.slots (omega arith) in
     let hb = spelt ask.bits (omega arith) in
     let read = by_words _ _ _ _ _ _ hr hs hb ∙ three _ _ _ _ _ _ hr hs hb in
-    let i = reads _ _ (2 ^ 32 - 1) Rate hr (omega arith) in
-    let j = reads _ _ 255 Slots hs (omega arith) in
-    let k = reads _ _ 255 Bits hb (omega arith) in
-    rw e (rw read (rw i (rw j (rw k refl))))
+    let rate_read = reads _ _ (2 ^ 32 - 1) Rate hr (omega arith) in
+    let slots_read = reads _ _ 255 Slots hs (omega arith) in
+    let bits_read = reads _ _ 255 Bits hb (omega arith) in
+    rw (e, read, rate_read, slots_read, bits_read)
