@@ -1,6 +1,7 @@
 -- Lines of text, byte by byte. Assumes nothing.
 --     is_blank b              whether a byte stands between words
---     value_of bs             what a word of digits stands for
+--     is_line_feed b          whether a byte ends a line
+--     is_digits, value_of     whether a word is made of digits, and what it then stands for
 --     word_in, past_word      the first word of a text, and what follows it
 --     line_in, past_line      the first line of a text, and what follows its end
 --     text_left lines         what the lines are still to be taken from
