@@ -21,7 +21,7 @@ pub enum Fault {
 }
 
 /// Dividers that a chip takes.
-#[derive(Clone, Copy)]
+#[derive(Clone, Copy, PartialEq, Eq)]
 pub struct Plan {
     pub dividers: I2sClockDividers,
     /// The parts of the pair, on a chip that stores it split.

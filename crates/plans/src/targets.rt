@@ -22,7 +22,7 @@ impl fmt::Display for ChipName {
 }
 
 /// What a chip can divide by, and which set-ups it has.
-#[derive(Clone, Copy)]
+#[derive(Clone, Copy, PartialEq, Eq)]
 pub struct Chip {
     pub name: ChipName,
     /// The largest denominator of its pair.
