@@ -1,8 +1,9 @@
 //! Lines of text: which of them ask for a plan, and what they ask.
-ghost use Rattle.std.specs.Prelude.{◌≡◌, ◌<◌, ◌^◌, IsTrue, length, not, position};
+ghost use Rattle.std.specs.Prelude.{◌≡◌, ◌<◌, ◌^◌, IsTrue, Some, length, not, position};
 ghost use Rattle.std.specs.Option.{SomeIff};
 ghost use Rattle.std.specs.Iterator.{at_most};
 ghost use Rattle.plans.specs.Lines.{ReadsWritten, TakesLine, ask_of, is_blank, is_digits, is_line_feed, line_in, number_of, past_line, past_word, reading_of, text_left, value_of, word_in};
+ghost use Rattle.plans.specs.Words.{number_text, unread_text};
 
 use std::{fmt, str};
 
@@ -23,6 +24,8 @@ pub enum Number {
 }
 
 impl fmt::Display for Number {
+    ghost output = { λ what. Some (number_text what) };
+
     fn fmt<W: fmt::Write>(&self, f: &mut fmt::Formatter<W>) -> fmt::Result {
         f.write_str(match self {
             Number::Rate => "rate",
@@ -46,6 +49,8 @@ pub enum Unread {
 }
 
 impl fmt::Display for Unread {
+    ghost output = { λ why. Some (unread_text why) };
+
     fn fmt<W: fmt::Write>(&self, f: &mut fmt::Formatter<W>) -> fmt::Result {
         match self {
             Unread::Short => f.write_str("it has fewer than three words"),

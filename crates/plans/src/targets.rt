@@ -1,6 +1,7 @@
 //! The chips that plans are made for.
-ghost use Rattle.std.specs.Prelude.{◌≡◌};
+ghost use Rattle.std.specs.Prelude.{◌≡◌, Some};
 ghost use Rattle.plans.specs.Chips.{chips_known, lack_of};
+ghost use Rattle.plans.specs.Words.{name_text};
 
 use crate::read::Ask;
 use dividers::DividerRange;
@@ -13,6 +14,8 @@ pub enum ChipName {
 }
 
 impl fmt::Display for ChipName {
+    ghost output = { λ name. Some (name_text name) };
+
     fn fmt<W: fmt::Write>(&self, f: &mut fmt::Formatter<W>) -> fmt::Result {
         f.write_str(match self {
             ChipName::Esp32 => "ESP32",
