@@ -14,7 +14,7 @@ const CARRY_ABOVE: u64 = 9_920;
 
 const LEAST_DENOMINATOR: u32 = 2;
 
-// What stands for no pair.
+// What stands for no pair in the published struct; an `Option` would be taken apart again by the only caller.
 const NO_PAIR: (u32, u32) = (0, 0);
 
 // 2^64 / 10,000, rounded up.
@@ -102,6 +102,7 @@ impl Search {
     {
         let mut trial = self.first_trial();
         let mut best = trial.tried();
+        // Left by `break` with what it chose; a `for` was slower at some placements of its code.
         loop {
             if best.miss == 0 || trial.denominator >= self.max {
                 break best;

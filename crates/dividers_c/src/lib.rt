@@ -12,7 +12,7 @@ use dividers::{ConfigError, DividerRange, I2sClockDividers, I2sMclkDividers, Rat
 // What stands for no refusal.
 const ACCEPTED: u32 = 0;
 
-/// Dividers as C has them; `refusal` is 0 where there are any.
+/// Dividers as C has them, which knows no `Result`; `refusal` is 0 where there are any.
 #[repr(C)]
 #[derive(Clone, Copy)]
 pub struct Dividers {
@@ -46,7 +46,7 @@ impl From<Result<I2sClockDividers, ConfigError>> for Dividers {
     }
 }
 
-/// A split pair as C has it; `refusal` is 0 where there is one, and `yn1` is 0 or 1.
+/// A split pair as C has it, which knows no `Result`; `refusal` is 0 where there is one, and `yn1` is 0 or 1.
 #[repr(C)]
 #[derive(Clone, Copy)]
 pub struct MclkDividers {
@@ -102,7 +102,7 @@ pub extern "C" fn i2s_mclk_dividers(denominator: u32, numerator: u32) -> MclkDiv
     pair.mclk_dividers().into()
 }
 
-/// 0 where an integer part lies from the least to the most, else the refusal's number.
+/// For C: 0 where an integer part lies from the least to the most, else the refusal's number.
 #[unsafe(no_mangle)]
 pub extern "C" fn i2s_within(mclk_divider: u32, least: u32, most: u32) -> u32
     ensures { result ≡ within_in_c (within_range mclk_divider least most) }

@@ -57,6 +57,7 @@ impl Field {
         }
     }
 
+    // `width` and `kind` match alike, but one function for both would be handed the question for three types.
     /// The field's width in bits, 1 to 32.
     pub fn width(self) -> u32
         ensures width { result ≡ width_of self }
@@ -96,6 +97,7 @@ impl Field {
     }
 }
 
+// Not derived, since a derive has no clause that says that it decides equality.
 impl PartialEq for Field {
     ghost eq = { on place_of nat_eq };
 

@@ -15,6 +15,7 @@ pub struct Draw {
 
 #[tactic(auto, using(crate::proofs::Courses::tx_courses, crate::proofs::Courses::rx_courses))]
 impl Draw {
+    // Two functions, since they add up different things and each has a law of its own.
     /// How many polls a transmit half takes from a start that draws this to the poll that finds the transfer over.
     pub fn tx_polls(self) -> u64
         ensures polls { result ≡ self.late + self.wait + 1 }

@@ -9,7 +9,7 @@ use fields::Kind;
 /// What a half keeps beside its fields.
 #[derive(Clone, Copy, PartialEq, Eq, Debug)]
 pub struct Marks {
-    /// A transfer runs.
+    /// A transfer runs. It stands beside what is left of the draw, since a reset lowers it alone and the rest stays to be seen.
     pub busy: bool,
     /// The FIFO has something of an earlier start.
     pub stale: bool,
@@ -80,6 +80,7 @@ impl Marks {
         };
     }
 
+    // Two polls, since only this one looks at late, and they answer in two types.
     /// Polls a transmit half: whether it is found idle.
     pub fn poll_tx(&mut self) -> bool
         ensures answer { result ≡ idle self.old }

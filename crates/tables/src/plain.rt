@@ -15,6 +15,7 @@ use marks::{Events, Marks};
 /// Every field's number at its place, and the marks of both halves. It draws nothing itself: a put is told what a start draws.
 #[derive(Drop)]
 pub struct Plain {
+    // Fixed memory, a place for each field.
     table: [u32; 160],
     tx: Marks,
     rx: Marks,
@@ -78,6 +79,7 @@ impl Plain {
         }
     }
 
+    // `clear` and `enable` match alike; one function that is handed the move needs a contract and answers longer than the arms.
     /// Ends the named events of a half.
     pub fn clear(&mut self, half: Side, events: Events)
         ensures { MarksMoved (upon Transmit half (cleared events)) (upon Receive half (cleared events)) self.old self.new }
