@@ -14,9 +14,10 @@ use marks::Events;
 
 /// A block of registers. What a function answers and what it makes of a half follow from that half and the
 /// arguments alone; the other half and the common part stay as they were.
-// Each function says itself what it leaves of the three parts, and each look that it changes nothing: these are facts of a call,
-// which no type holds. What a call is handed stays apart, as a struct for it would be taken apart at once.
 pub trait RegBlock {
+    // Each function says itself what it leaves of the three parts, and each look that it changes nothing: these are facts of a
+    // call, which no type holds. What a call is handed stays apart, as a struct for it would be taken apart at once.
+
     ghost tx: { Self → Half TxField };
 
     ghost rx: { Self → Half RxField };

@@ -6,8 +6,8 @@ ghost use Rattle.blocks.specs.Puts.{starting, stored_in};
 
 use fields::{Field, Kind};
 
-#[tactic(auto, using(crate::proofs::Laws::puts_read_back))]
 /// The number that a put of `value` into a field stores.
+#[tactic(auto, using(crate::proofs::Laws::puts_read_back))]
 pub fn stored(field: Field, value: u32) -> u32
     ensures stored { result ≡ stored_in field value }
     ensures read { PutsReadBack }

@@ -38,6 +38,7 @@ pub enum NoPlan {
 
 impl Chip {
     /// The chip's plan.
+    #[tactic(auto, using(crate::proofs::Said::plan_says))]
     pub fn plan(&self, ask: Ask) -> Result<Plan, NoPlan>
         ensures says { Says self.now ask result }
         ensures computed { result ≡ plan_of self.now ask }

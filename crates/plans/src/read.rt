@@ -94,6 +94,8 @@ fn read_number(word: &[u8], what: Number, most: u32) -> Result<u32, Unread>
         .ok_or(Unread::TooLarge(what, most))
 }
 
+// Each search is a function, so that what it finds is known by a contract; written where it is used, goals stay open.
+
 // Where the first word of a text begins.
 fn word_start(text: &[u8]) -> Option<usize>
     ensures { result ≡ position (λ b. not (is_blank b)) text.now }
@@ -148,6 +150,7 @@ pub struct Lines<'a> {
 }
 
 impl<'a> Lines<'a> {
+    /// All lines of the text.
     pub fn new(text: &'a [u8]) -> Lines<'a>
         ensures { text_left result ≡ text.now }
     {
@@ -173,6 +176,7 @@ impl<'a> Iterator for Lines<'a> {
 }
 
 /// What a line asks, by its words; nothing where it is blank, or a remark after a `#`.
+#[tactic(auto, using(crate::proofs::Written::reads_written))]
 pub fn read_line(line: &[u8]) -> Result<Option<Ask>, Unread>
     ensures written { ReadsWritten line.now result }
     ensures computed { result ≡ reading_of line.now }

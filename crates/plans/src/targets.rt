@@ -7,6 +7,7 @@ use crate::read::Ask;
 use dividers::DividerRange;
 use std::fmt;
 
+/// The chips by name.
 #[derive(Clone, Copy, PartialEq, Eq)]
 pub enum ChipName {
     Esp32,

@@ -58,11 +58,11 @@ impl<D: Draws> RegBlock for Simulated<D> {
     }
 
     fn events(&self, half: Side) -> Events {
-        self.plain.marks(half).events
+        self.marks(half).events
     }
 
     fn enabled(&self, half: Side) -> Events {
-        self.plain.marks(half).enabled
+        self.marks(half).enabled
     }
 
     fn put(&mut self, field: Field, value: u32) {

@@ -5,14 +5,14 @@ ghost use Rattle.fields.specs.Table.{place_of, rx_row, tx_row};
 ghost use Rattle.tables.specs.Plain.{common_in, marks_of, rx_in, tx_in, JustMade, MarksMoved, UnusedKept};
 ghost use Rattle.marks.specs.Marks.{after_put, after_rx_poll, after_tx_poll, cleared, enabling, idle};
 ghost use Rattle.blocks.specs.Half.{upon};
-ghost use Rattle.blocks.specs.Puts.{draws_on, in_rx, in_tx, later, marks_after, starting, put_common, put_rx, put_tx, stored_in};
+ghost use Rattle.blocks.specs.Puts.{draws_on, in_rx, in_tx, later, marks_after, put_common, put_rx, put_tx, stored_in};
 
 use crate::draws::Draws;
-use blocks::stored;
+use blocks::{is_start, stored};
 use fields::{Field, Kind, Side};
 use marks::{Events, Marks};
 
-/// Every field's number at its place, and the marks of both halves. It draws nothing itself: a put is told what a start draws.
+/// Every field's number at its place, and the marks of both halves. A put is handed what the starts of each half draw from.
 #[derive(Drop)]
 pub struct Plain {
     // Fixed memory, a place for each field.
@@ -42,9 +42,9 @@ impl Plain {
     }
 
     /// A put where each start of a half draws the next of that half's rows: of `tx` or of `rx`.
-    pub fn put<D: Draws>(&mut self, field: Field, value: u32, tx: &mut D, rx: &mut D)
-        ensures tx { tx_in self.new (D.to_come tx.new) ≡ put_tx field value (tx_in self.old (D.to_come tx.old)) }
-        ensures rx { rx_in self.new (D.to_come rx.new) ≡ put_rx field value (rx_in self.old (D.to_come rx.old)) }
+    pub fn put<T: Draws, R: Draws>(&mut self, field: Field, value: u32, tx: &mut T, rx: &mut R)
+        ensures tx { tx_in self.new (T.to_come tx.new) ≡ put_tx field value (tx_in self.old (T.to_come tx.old)) }
+        ensures rx { rx_in self.new (R.to_come rx.new) ≡ put_rx field value (rx_in self.old (R.to_come rx.old)) }
         ensures common { common_in self.new ≡ put_common field value (common_in self.old) }
         ensures unused { UnusedKept self.old self.new }
     {
@@ -52,19 +52,20 @@ impl Plain {
     }
 
     // Stores, and moves the marks and the draws of the field's half.
-    fn put_and_draw<D: Draws>(&mut self, field: Field, value: u32, tx: &mut D, rx: &mut D)
+    fn put_and_draw<T: Draws, R: Draws>(&mut self, field: Field, value: u32, tx: &mut T, rx: &mut R)
         ensures sized { length self.old.table ≡ 160 }
         ensures table { self.new.table ≡ slice_set self.old.table (place_of field) (stored_in field value) }
-        ensures tx { self.new.tx ≡ marks_after tx_row (in_tx field) value (D.to_come tx.old 0) self.old.tx }
-        ensures rx { self.new.rx ≡ marks_after rx_row (in_rx field) value (D.to_come rx.old 0) self.old.rx }
-        ensures tx_draws { D.to_come tx.new ≡ later (draws_on tx_row (in_tx field) value) (D.to_come tx.old) }
-        ensures rx_draws { D.to_come rx.new ≡ later (draws_on rx_row (in_rx field) value) (D.to_come rx.old) }
+        ensures tx { self.new.tx ≡ marks_after tx_row (in_tx field) value (T.to_come tx.old 0) self.old.tx }
+        ensures rx { self.new.rx ≡ marks_after rx_row (in_rx field) value (R.to_come rx.old 0) self.old.rx }
+        ensures tx_draws { T.to_come tx.new ≡ later (draws_on tx_row (in_tx field) value) (T.to_come tx.old) }
+        ensures rx_draws { R.to_come rx.new ≡ later (draws_on rx_row (in_rx field) value) (R.to_come rx.old) }
     {
         let number = stored(field, value);
         self.table[field.place()] = number;
+        let starts = is_start(field, value);
         match field {
-            Field::Tx(_) => put_on(&mut self.tx, field.kind(), number, tx),
-            Field::Rx(_) => put_on(&mut self.rx, field.kind(), number, rx),
+            Field::Tx(_) => put_on(&mut self.tx, field.kind(), number, tx, starts),
+            Field::Rx(_) => put_on(&mut self.rx, field.kind(), number, rx, starts),
             Field::Common(_) => {}
         }
     }
@@ -79,11 +80,11 @@ impl Plain {
         }
     }
 
-    // `clear` and `enable` match alike; one function that is handed the move needs a contract and answers longer than the arms.
     /// Ends the named events of a half.
     pub fn clear(&mut self, half: Side, events: Events)
         ensures { MarksMoved (upon Transmit half (cleared events)) (upon Receive half (cleared events)) self.old self.new }
     {
+        // As in `enable`; one function that is handed the move needs a contract and answers longer than these arms.
         match half {
             Side::Transmit => self.tx.clear(events),
             Side::Receive => self.rx.clear(events),
@@ -117,13 +118,13 @@ impl Plain {
     }
 }
 
-// Moves a half's marks as a put does that stored this number in a field of this kind; a start draws a row.
-fn put_on<D: Draws>(marks: &mut Marks, kind: Kind, number: u32, draws: &mut D)
+// Moves a half's marks as a put does that stored this number in a field of this kind; a row is drawn where it starts.
+fn put_on<D: Draws>(marks: &mut Marks, kind: Kind, number: u32, draws: &mut D, starts: bool)
     ensures marks { marks.new ≡ after_put kind number (D.to_come draws.old 0) marks.old }
-    ensures draws { D.to_come draws.new ≡ later (starting kind number) (D.to_come draws.old) }
+    ensures draws { D.to_come draws.new ≡ later starts (D.to_come draws.old) }
 {
     marks.put(kind, number, draws.next_draw());
-    if kind == Kind::Start && number == 1 {
+    if starts {
         draws.advance();
     }
 }

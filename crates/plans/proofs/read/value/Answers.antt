@@ -3,6 +3,7 @@ use Rattle.std.proofs.lemmas.Str.Parse.{parse_digits}
 use Rattle.plans.proofs.Digits.{digits_are_text, numerals}
 use Rattle.plans.proofs.read.value.Goals as goal
 
+-- the search does not name the text that the digits are, nor what is parsed of it
 pub unwrap-requires : goal.unwrap-requires
 unwrap-requires c = let text = digits_are_text c.args.digits.now (search rules) in search rules
 
