@@ -58,7 +58,7 @@ impl fmt::Display for PlanText<'_> {
     }
 }
 
-// What is out of range, and its limit.
+// What is out of range, and its limit. It holds the chip as the others do, each for a text of its own.
 #[derive(Clone, Copy)]
 struct FaultText<'a> {
     chip: &'a Chip,

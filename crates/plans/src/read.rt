@@ -211,6 +211,7 @@ fn read_ask(rate: &[u8], slots: &[u8], bits: &[u8]) -> Result<Ask, Unread>
     let rate = read_number(rate, Number::Rate, u32::MAX)?;
     let slots = read_number(slots, Number::Slots, u8::MAX as u32)?;
     let bits = read_number(bits, Number::Bits, u8::MAX as u32)?;
+    // They fit, as `read_number` was told; `try_from` would need a refusal that never comes.
     Ok(Ask {
         rate,
         slots: slots as u8,
