@@ -37,18 +37,40 @@ const AT_ONCE: Draw = Draw {
     hung: false,
 };
 
-// What the polls of the worked example find: idle or not.
-const FOUND: [bool; 8] = [true, true, false, false, false, true, true, true];
+// The rows of the worked example in docs/RULES.md: whether a poll finds the half idle, and busy, late and wait after it.
+const COURSE: [(bool, bool, u32, u32); 8] = [
+    (true, true, 1, 3),
+    (true, true, 0, 3),
+    (false, true, 0, 2),
+    (false, true, 0, 1),
+    (false, true, 0, 0),
+    (true, false, 0, 0),
+    (true, false, 0, 0),
+    (true, false, 0, 0),
+];
 
-// The worked example of docs/RULES.md on any block whose first transmit start draws `WORKED`.
+// The worked example on any block whose first transmit start draws `WORKED`.
 fn worked_example<B: RegBlock>(rt: &impl Abort, block: &mut B) {
     block.put(TX_START, 3);
     assert_eq!(rt; block.get(TX_START), 1);
-    for idle in FOUND {
+    for (idle, busy, _, _) in COURSE {
         assert!(rt; block.poll_tx() == idle);
+        let events = if busy { NONE } else { ENDED_HUNG };
+        assert!(rt; block.events(Side::Transmit) == events);
     }
-    assert!(rt; block.events(Side::Transmit) == ENDED_HUNG);
     assert!(rt; block.reported(Side::Transmit) == NONE && block.events(Side::Receive) == NONE);
+}
+
+#[test]
+fn marks_go_as_in_the_worked_example(rt: HostRuntime) {
+    let mut block = PacedBlock::new(WORKED, AT_ONCE);
+    block.put(TX_START, 3);
+    for (idle, busy, late, wait) in COURSE {
+        assert!(rt; block.poll_tx() == idle);
+        let marks = block.marks(Side::Transmit);
+        assert!(rt; marks.busy == busy && marks.late == late && marks.wait == wait);
+        assert!(rt; marks.stale && marks.link && !marks.pending && marks.hung);
+    }
 }
 
 #[test]
@@ -75,22 +97,62 @@ fn a_receive_half_never_looks_at_late(rt: HostRuntime) {
     assert_eq!(rt; block.marks(Side::Receive).late, WORKED.late);
 }
 
-// Numbers that do not fit: what a field of one bit, of 12 and of 8 then holds.
+// A field of each width that there is, of both chips, with its width in bits.
+const WIDTHS: [(Field, u32); 12] = [
+    (Field::Rx(RxField::OldRxMono), 1),
+    (Field::Tx(TxField::NewTxClkSel), 2),
+    (Field::Tx(TxField::OldTxChanMod), 3),
+    (Field::Rx(RxField::NewRxTdmTotChanNum), 4),
+    (Field::Tx(TxField::NewTxBitsMod), 5),
+    (Field::Common(CommonField::OldClkmDivA), 6),
+    (Field::Rx(RxField::NewRxTdmWsWidth), 7),
+    (Field::Common(CommonField::OldClkmDivNum), 8),
+    (Field::Tx(TxField::NewTxClkmDivX), 9),
+    (Field::Rx(RxField::NewRxEofNum), 12),
+    (Field::Rx(RxField::OldRxEofNum), 32),
+    (Field::Tx(TxField::NewSingleData), 32),
+];
+
+// Numbers that do not fit: each field keeps its lowest bits, and no field reaches into another.
 #[test]
 fn numbers_are_cut(rt: HostRuntime) {
-    let end = Field::Rx(RxField::NewRxEofNum);
-    let divider = Field::Common(CommonField::OldClkmDivNum);
+    let mut block = PacedBlock::new(WORKED, WORKED);
+    for value in [u32::MAX, 0, 0x5555_5555, 0xaaaa_aaaa] {
+        for (field, _) in WIDTHS {
+            block.put(field, value);
+        }
+        for (field, width) in WIDTHS {
+            assert_eq!(rt; field.width(), width);
+            assert_eq!(rt; block.get(field), value << (32 - width) >> (32 - width));
+        }
+    }
+}
+
+// A number does by what is stored of it: 2 is no start and 3 is, and so with an update.
+#[test]
+fn a_put_does_what_is_stored(rt: HostRuntime) {
+    let update = Field::Rx(RxField::NewRxUpdate);
     let mut block = PacedBlock::new(WORKED, WORKED);
     block.put(TX_START, 2);
-    let idle = !block.marks(Side::Transmit).busy;
-    block.put(TX_START, u32::MAX);
-    block.put(end, 4_096 + 7);
-    block.put(divider, 256 + 2);
-    let cut = [block.get(TX_START), block.get(end), block.get(divider)];
-    assert!(rt; cut == [1, 7, 2]);
-    let pending = block.marks(Side::Receive).pending;
-    block.put(Field::Rx(RxField::NewRxUpdate), 3);
-    assert!(rt; idle && pending && !block.marks(Side::Receive).pending);
+    assert!(rt; !block.marks(Side::Transmit).busy && block.poll_tx());
+    block.put(TX_START, 3);
+    assert!(rt; block.marks(Side::Transmit).busy && block.get(TX_START) == 1);
+    block.put(Field::Rx(RxField::NewRxMono), 0);
+    block.put(update, 2);
+    assert!(rt; block.marks(Side::Receive).pending);
+    block.put(update, u32::MAX);
+    assert!(rt; !block.marks(Side::Receive).pending && !block.marks(Side::Transmit).pending);
+}
+
+// With nothing started, polls find a half idle and leave it as it is.
+#[test]
+fn polls_of_a_half_at_rest_leave_it(rt: HostRuntime) {
+    let mut block = ScriptedBlock::new(&[WORKED], &[WORKED]);
+    let before = [block.marks(Side::Transmit), block.marks(Side::Receive)];
+    for _ in 0..3 {
+        assert!(rt; block.poll_tx() && block.poll_rx() == NONE);
+    }
+    assert!(rt; [block.marks(Side::Transmit), block.marks(Side::Receive)] == before);
 }
 
 #[test]
