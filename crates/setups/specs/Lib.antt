@@ -1,0 +1,14 @@
+pub mod Channels
+pub mod Check
+pub mod Configs
+pub mod Fit
+pub mod Formats
+pub mod OldConfigs
+pub mod OldFit
+pub mod OldPassing
+pub mod OldReach
+pub mod OldUnits
+pub mod Passing
+pub mod Reach
+pub mod Refused
+pub mod Units
