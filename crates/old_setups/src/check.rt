@@ -1,13 +1,13 @@
 //! The check of a set-up of the old chip.
 ghost use Rattle.std.specs.Prelude.{◌≡◌, ◌↔◌, false, IfOk, IsOk};
 ghost use Rattle.std.specs.Result.{IsOkUnless, result_err};
-ghost use Rattle.setups.specs.OldConfigs.{dividers_in, numbers_by, rate_wrong, refusal_of};
-ghost use Rattle.setups.specs.OldPassing.{Checked};
+ghost use Rattle.old_setups.specs.Configs.{dividers_in, numbers_by, rate_wrong, refusal_of};
+ghost use Rattle.old_setups.specs.Passing.{Checked};
 
-use crate::esp32::config::Config;
-use crate::esp32::numbers::ClockNumbers;
-use crate::esp32::reach::ClockReach;
-use crate::esp32::setup::Setup;
+use crate::config::Config;
+use crate::numbers::ClockNumbers;
+use crate::reach::ClockReach;
+use crate::setup::Setup;
 use dividers::{ConfigError, I2sClockDividers};
 
 // The channels of every frame of this chip.

@@ -10,13 +10,13 @@ use Rattle.dividers.specs.Pair.{has_pair, pair_of}
 use Rattle.dividers.specs.Search.{numerator_at}
 use Rattle.dividers.proofs.Pairs.{pair_agrees}
 use Rattle.fields.proofs.Every.{at_each}
-use Rattle.setups.specs.contracts.esp32.format.DataFormat as format
-use Rattle.setups.specs.declared.esp32.config.Config.{Config}
-use Rattle.setups.specs.declared.esp32.format.DataFormat.{DataFormat}
-use Rattle.setups.specs.OldConfigs.{bits_of, clock_numbers, clock_wrong, dividers_in, rate_wrong, refusal_of}
-use Rattle.setups.specs.OldFit.{ClockNumbersFit}
-use Rattle.setups.specs.OldReach.{reaches}
-use Rattle.setups.specs.OldUnits.{data_bits_of}
+use Rattle.old_setups.specs.contracts.format.DataFormat as format
+use Rattle.old_setups.specs.declared.config.Config.{Config}
+use Rattle.old_setups.specs.declared.format.DataFormat.{DataFormat}
+use Rattle.old_setups.specs.Configs.{bits_of, clock_numbers, clock_wrong, dividers_in, rate_wrong, refusal_of}
+use Rattle.old_setups.specs.Fit.{ClockNumbersFit}
+use Rattle.old_setups.specs.Reach.{reaches}
+use Rattle.old_setups.specs.Units.{data_bits_of}
 use Rattle.setups.proofs.Fit.{bit_divider_bounds, bounded, denominator_within, is_bounded, refused_none}
 
 -- a numerator is not above its denominator

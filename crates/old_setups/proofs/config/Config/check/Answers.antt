@@ -1,8 +1,8 @@
 use Rattle.std.proofs.Common.{◌≡◌, None, rules}
-use Rattle.setups.specs.OldConfigs.{clock_numbers, refusal_of}
-use Rattle.setups.specs.OldFit.{ClockNumbersFit}
-use Rattle.setups.proofs.OldFit.{accepted_fit}
-use Rattle.setups.proofs.esp32.config.Config.check.Goals as goal
+use Rattle.old_setups.specs.Configs.{clock_numbers, refusal_of}
+use Rattle.old_setups.specs.Fit.{ClockNumbersFit}
+use Rattle.old_setups.proofs.Fit.{accepted_fit}
+use Rattle.old_setups.proofs.config.Config.check.Goals as goal
 
 -- named on the function, the lemma is not found
 pub invariant_of-result : goal.invariant_of-result

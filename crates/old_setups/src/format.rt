@@ -1,6 +1,6 @@
 //! The data formats of the old chip.
 ghost use Rattle.std.specs.Prelude.{◌≡◌};
-ghost use Rattle.setups.specs.OldUnits.{channel_bits_of, data_bits_of};
+ghost use Rattle.old_setups.specs.Units.{channel_bits_of, data_bits_of};
 
 /// Supported data formats
 #[derive(Clone, Copy, PartialEq, Eq)]

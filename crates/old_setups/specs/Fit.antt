@@ -8,8 +8,8 @@ use Rattle.fields.specs.declared.Field.TheVariants.{Tx, Rx, Common}
 use Rattle.fields.specs.declared.RxField.TheVariants.{OldRxFifoMod, OldRxChanMod, OldRxBckDivNum, OldRxBitsMod}
 use Rattle.fields.specs.declared.TxField.TheVariants.{OldTxFifoMod, OldTxChanMod, OldSigleData, OldTxBckDivNum, OldTxBitsMod}
 use Rattle.fields.specs.Table.{width_of}
-use Rattle.setups.specs.declared.esp32.numbers.ClockNumbers.{ClockNumbers}
-use Rattle.setups.specs.declared.esp32.numbers.UnitNumbers.{UnitNumbers}
+use Rattle.old_setups.specs.declared.numbers.ClockNumbers.{ClockNumbers}
+use Rattle.old_setups.specs.declared.numbers.UnitNumbers.{UnitNumbers}
 
 abbrev pub Within : Field → ℕ → Type 0
 Within f n = n < 2 ^ width_of f
