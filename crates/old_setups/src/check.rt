@@ -1,8 +1,10 @@
 //! The check of a set-up of the old chip.
 ghost use Rattle.std.specs.Prelude.{◌≡◌, ◌↔◌, false, IfOk, IsOk};
 ghost use Rattle.std.specs.Result.{IsOkUnless, result_err};
+ghost use Rattle.dividers.specs.Refusals.{refused_by};
 ghost use Rattle.old_setups.specs.Configs.{dividers_in, numbers_by, rate_wrong, refusal_of};
 ghost use Rattle.old_setups.specs.Passing.{Checked};
+ghost use Rattle.setups.specs.Refused.{numbered};
 
 use crate::config::Config;
 use crate::numbers::ClockNumbers;
@@ -17,7 +19,8 @@ impl Config {
     /// The set-up with its numbers, if it passes: its clocks, and an integer part that is within reach. The first of these that
     /// fails is answered.
     pub fn check(&self, reach: ClockReach) -> Result<Setup, ConfigError>
-        ensures { Checked reach.max reach.range self.now result }
+        ensures checked { Checked reach.max reach.range self.now result }
+        ensures refused { refused_by result ≡ numbered (refusal_of reach.range self.now) }
     {
         let dividers = self.measure(reach)?;
         Ok(Setup {

@@ -1,8 +1,10 @@
 //! The check of a unit's set-up of the new chip.
-ghost use Rattle.std.specs.Prelude.{◌≡◌, ◌≤◌, ◌↔◌, false, IfOk, IsOk};
+ghost use Rattle.std.specs.Prelude.{◌≡◌, ◌-◌, ◌↔◌, false, IfOk, IsOk};
 ghost use Rattle.std.specs.Result.{IsOkUnless, result_err};
+ghost use Rattle.dividers.specs.Refusals.{refused_by};
 ghost use Rattle.setups.specs.Check.{channels_wrong, dividers_in, frame_of, frame_wrong, numbers_by, rate_wrong, refusal_of, split_in, ws_width_answer, ws_width_of};
 ghost use Rattle.setups.specs.Passing.{Checked};
+ghost use Rattle.setups.specs.Refused.{numbered};
 
 use crate::esp32c3::numbers::UnitNumbers;
 use crate::esp32c3::reach::ClockReach;
@@ -80,7 +82,6 @@ impl UnitConfig {
     fn calculate_clock(&self, max: u32) -> Result<I2sClockDividers, ConfigError>
         ensures passes { IsOk result ↔ (rate_wrong self.now ≡ false) }
         ensures dividers { IfOk result (λ d. d ≡ dividers_in max self.now) }
-        ensures some_bits { IfOk result (λ d. frame_wrong self.now ≡ false → 1 ≤ d.bclk_divider) }
         ensures refused { IsOkUnless result ConfigError.RateOutOfRange }
     {
         I2sClockDividers::new(
@@ -94,7 +95,8 @@ impl UnitConfig {
     /// The set-up with its numbers, if it passes: its channels, its word-select width, its frame, its clocks, and dividers that
     /// are within reach. The first of these that fails is answered.
     pub fn check(&self, reach: ClockReach) -> Result<Setup, ConfigError>
-        ensures { Checked reach.max reach.range self.now result }
+        ensures checked { Checked reach.max reach.range self.now result }
+        ensures refused { refused_by result ≡ numbered (refusal_of reach.max reach.range self.now) }
     {
         let measures = self.measure(reach)?;
         Ok(Setup {
@@ -111,11 +113,8 @@ impl UnitConfig {
     fn measure(&self, reach: ClockReach) -> Result<Measures, ConfigError>
         ensures refused { result_err result ≡ refusal_of reach.max reach.range self.now }
         ensures ws_width { IfOk result (λ m. m.ws_width ≡ ws_width_of self.now) }
-        ensures wide { IfOk result (λ m. 1 ≤ m.ws_width) }
         ensures frame { IfOk result (λ m. m.frame ≡ frame_of self.now) }
-        ensures two_bits { IfOk result (λ m. 2 ≤ m.frame) }
         ensures dividers { IfOk result (λ m. m.dividers ≡ dividers_in reach.max self.now) }
-        ensures some_bits { IfOk result (λ m. 1 ≤ m.dividers.bclk_divider) }
         ensures split { IfOk result (λ m. m.split ≡ split_in reach.max self.now) }
     {
         self.validate()?;
@@ -134,11 +133,8 @@ impl UnitConfig {
 
     // The numbers of a set-up that passes, by its measures.
     fn numbers(&self, measures: Measures) -> UnitNumbers
-        requires wide { 1 ≤ measures.ws_width }
         requires width { measures.ws_width ≡ ws_width_of self.now }
-        requires two_bits { 2 ≤ measures.frame }
         requires frame { measures.frame ≡ frame_of self.now }
-        requires some_bits { 1 ≤ measures.dividers.bclk_divider }
         ensures { result ≡ numbers_by self.now measures.dividers measures.split }
     {
         let split = measures.split;
@@ -148,19 +144,26 @@ impl UnitConfig {
             clkm_div_yn1: split.yn1,
             clkm_div_z: split.z,
             clkm_div_num: measures.dividers.mclk_divider,
-            bck_div_num: measures.dividers.bclk_divider - 1,
+            bck_div_num: less_one(measures.dividers.bclk_divider),
             msb_shift: self.msb_shift,
-            tdm_ws_width: measures.ws_width as u32 - 1,
-            bits_mod: self.data_format.data_bits() as u32 - 1,
-            tdm_chan_bits: self.data_format.channel_bits() as u32 - 1,
-            half_sample_bits: measures.frame as u32 / 2 - 1,
+            tdm_ws_width: less_one(u32::from(measures.ws_width)),
+            bits_mod: less_one(u32::from(self.data_format.data_bits())),
+            tdm_chan_bits: less_one(u32::from(self.data_format.channel_bits())),
+            half_sample_bits: less_one(u32::from(measures.frame) / 2),
             chan_equal: self.channels.fill().is_none(),
             big_endian: self.endianness == Endianness::BigEndian,
             bit_order: self.bit_order == BitOrder::LsbFirst,
             ws_idle_pol: self.ws_polarity == Polarity::ActiveHigh,
-            tdm_tot_chan_num: self.channels.count() as u32 - 1,
+            tdm_tot_chan_num: less_one(u32::from(self.channels.count())),
             tdm_chan_en: self.channels.mask(),
             single_data: self.channels.fill().unwrap_or(0),
         }
     }
+}
+
+// What a field holds that counts from 0. Nothing that passes is 0 there.
+fn less_one(n: u32) -> u32
+    ensures { result ≡ n - 1 }
+{
+    n.saturating_sub(1)
 }
