@@ -33,7 +33,6 @@ macro_rules! window {
             AnyI2s(AnyI2sInner::I2s0(I2S0(core::marker::PhantomData)))
         }
 
-        #[cfg(esp32)]
         #[inline(never)]
         pub fn set_up_both(config: &Config) -> Result<(), ConfigError> {
             Self::first().configure(config)
