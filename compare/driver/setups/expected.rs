@@ -68,16 +68,13 @@ struct Judged {
 }
 
 impl Judged {
-    fn refused(kind: Kind, number: u32) -> Result<Judged, String> {
-        Ok(Judged { kind, line: format!("refused {number}"), others: Vec::new() })
+    fn refused(kind: Kind, number: u32) -> Judged {
+        Judged { kind, line: format!("refused {number}"), others: Vec::new() }
     }
 
-    fn numbers(
-        kind: Kind,
-        line: String,
-        others: Vec<(&'static str, u32)>,
-    ) -> Result<Judged, String> {
-        Ok(Judged { kind, line, others })
+    fn with(self, checked: Answer, unchecked: Answer) -> Expected {
+        let Judged { kind, line, others } = self;
+        Expected { kind, line, checked, unchecked, others }
     }
 }
 
@@ -90,26 +87,24 @@ pub fn of(asked: Asked) -> Result<Expected, String> {
 }
 
 fn of_unit(unit: Unit) -> Result<Expected, String> {
-    let ask = |build, half| recorded::unit(build, unit, half, Channels::Made);
-    let checked = ask(Build::Checked, Half::Transmit);
-    let unchecked = ask(Build::Unchecked, Half::Transmit);
+    let ask = |build, channels| {
+        [Half::Transmit, Half::Receive].map(|half| recorded::unit(build, unit, half, channels))
+    };
+    let checked = ask(Build::Checked, Channels::Made);
+    let unchecked = ask(Build::Unchecked, Channels::Made);
     let judged = if unit.count < 16 {
-        let halves = [checked.clone(), ask(Build::Checked, Half::Receive)];
-        hold_together(&halves, recorded::twice(unit))?;
-        let judged = judge_unit(unit, halves)?;
-        if matches!(judged.kind, Kind::Numbers | Kind::Refused | Kind::Cut) {
-            hold_alike(&checked, &unchecked)?;
-        }
-        judged
-    } else if checked == Answer::Panicked {
-        let whole = |half| recorded::unit(Build::Checked, unit, half, Channels::Whole);
-        let judged = judge_unit(unit, [Half::Transmit, Half::Receive].map(whole))?;
+        hold_together(&checked, recorded::twice(unit))?;
+        hold_builds(&checked[0], &unchecked[0])?;
+        hold_builds(&checked[1], &unchecked[1])?;
+        judge_unit(unit, checked.clone())?
+    } else if checked == [Answer::Panicked, Answer::Panicked] {
+        let judged = judge_unit(unit, ask(Build::Checked, Channels::Whole))?;
         Judged { kind: Kind::Count, ..judged }
     } else {
         return Err("the checked Rust takes 16 slots or more".to_string());
     };
-    let Judged { kind, line, others } = judged;
-    Ok(Expected { kind, line, checked, unchecked, others })
+    let ([checked, _], [unchecked, _]) = (checked, unchecked);
+    Ok(judged.with(checked, unchecked))
 }
 
 /// `configure` does to both halves what is done to each.
@@ -121,8 +116,9 @@ fn hold_together(halves: &[Answer; 2], both: Answer) -> Result<(), String> {
     if together == both { Ok(()) } else { Err(format!("both halves of the Rust: {both:?}")) }
 }
 
-fn hold_alike(checked: &Answer, unchecked: &Answer) -> Result<(), String> {
-    if checked == unchecked {
+/// Where the checked Rust does not panic the unchecked one does the same.
+fn hold_builds(checked: &Answer, unchecked: &Answer) -> Result<(), String> {
+    if *checked == Answer::Panicked || checked == unchecked {
         Ok(())
     } else {
         Err(format!("the builds of the Rust differ: {checked:?} and {unchecked:?}"))
@@ -133,12 +129,12 @@ fn judge_unit(unit: Unit, halves: [Answer; 2]) -> Result<Judged, String> {
     let input = Input { rate: unit.rate, channels: unit.count, bits: unit.data_bits() };
     match halves {
         [Answer::Refused(number), Answer::Refused(other)] if number == other => {
-            Judged::refused(Kind::Refused, number)
+            Ok(Judged::refused(Kind::Refused, number))
         }
         [Answer::Panicked, Answer::Panicked] | [Answer::Stored(_), Answer::Stored(_)]
             if unit.frame() > LONGEST_FRAME =>
         {
-            Judged::refused(Kind::Frame, FRAME_TOO_LONG)
+            Ok(Judged::refused(Kind::Frame, FRAME_TOO_LONG))
         }
         [Answer::Panicked, Answer::Panicked] => judge_panic(Chip::New, input),
         [Answer::Stored(tx), Answer::Stored(rx)] => {
@@ -162,28 +158,27 @@ fn of_both(both: Both) -> Result<Expected, String> {
     let checked = recorded::both(Build::Checked, both);
     let unchecked = recorded::both(Build::Unchecked, both);
     let input = Input { rate: both.rate, channels: 2, bits: both.data_bits() };
+    hold_builds(&checked, &unchecked)?;
     let judged = match &checked {
         Answer::Panicked => judge_panic(Chip::Old, input)?,
         Answer::Stored(events) => {
-            hold_alike(&checked, &unchecked)?;
             judge_numbers(Chip::Old, input, numbers::of_both(events)?, Vec::new())?
         }
         Answer::Refused(_) => return Err("the Rust refuses on the old chip".to_string()),
     };
-    let Judged { kind, line, others } = judged;
-    Ok(Expected { kind, line, checked, unchecked, others })
+    Ok(judged.with(checked, unchecked))
 }
 
 /// Why the Rust panics at a frame that it can store.
 fn judge_panic(chip: Chip, input: Input) -> Result<Judged, String> {
     if is_out_of_range(input) {
-        return Judged::refused(Kind::Rate, RATE_OUT_OF_RANGE);
+        return Ok(Judged::refused(Kind::Rate, RATE_OUT_OF_RANGE));
     }
     match chip.checked(input) {
         Some([_, _, denominator, numerator])
             if chip == Chip::New && published::split([denominator, numerator]).is_none() =>
         {
-            Judged::refused(Kind::Split, CLOCK_OUT_OF_REACH)
+            Ok(Judged::refused(Kind::Split, CLOCK_OUT_OF_REACH))
         }
         _ => Err("the Rust panics".to_string()),
     }
@@ -205,7 +200,7 @@ fn judge_numbers(
 ) -> Result<Judged, String> {
     let [part, _, denominator, numerator] = chip.checked(input).ok_or("the dividers panic")?;
     if !(1..=255).contains(&part) {
-        return Judged::refused(Kind::Part, CLOCK_OUT_OF_REACH);
+        return Ok(Judged::refused(Kind::Part, CLOCK_OUT_OF_REACH));
     }
     let search = Search::new(input, chip.max());
     if search.pair(CUT) != [denominator, numerator] {
@@ -214,12 +209,13 @@ fn judge_numbers(
     let best = search.pair(WHOLE);
     let others = [numbers.others.as_slice(), &more].concat();
     if best == [denominator, numerator] {
-        return Judged::numbers(Kind::Numbers, numbers.line(), others);
+        return Ok(Judged { kind: Kind::Numbers, line: numbers.line(), others });
     }
     if !known_cut(chip.max(), input.bits).contains(&input.rate) || chip == Chip::Old {
         return Err("a cut pair at a rate that is not a known one".to_string());
     }
-    Judged::numbers(Kind::Cut, with_split_of(best, numbers)?.line(), others)
+    let line = with_split_of(best, numbers)?.line();
+    Ok(Judged { kind: Kind::Cut, line, others })
 }
 
 /// The numbers with the Rust's split of another pair.
