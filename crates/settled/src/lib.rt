@@ -9,8 +9,8 @@ use setups::esp32c3::{Channels, DataFormat, UnitConfig, WsWidth};
 // Every slot of a frame.
 const ALL_SLOTS: u16 = u16::MAX;
 
-#[tactic(auto, using(crate::proofs::Settled::settled))]
 /// The rates in hertz whose dividers are settled on both chips, in stereo at 16 bits.
+#[tactic(auto, using(crate::proofs::Settled::settled))]
 pub fn settled_rates() -> [u32; 5]
     ensures rates { result ≡ rates_settled }
     ensures settled { Settled }
