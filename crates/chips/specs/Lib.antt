@@ -1,0 +1,5 @@
+pub mod Dividers
+pub mod Interrupts
+pub mod Moves
+pub mod Polls
+pub mod Puts

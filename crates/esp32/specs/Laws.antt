@@ -1,0 +1,73 @@
+-- What becomes of the divider in the old chip's fields. Assumes nothing.
+--     refused_at, numbers_at  what the definitions of an opening stand for
+--     tx_divides, rx_divides  nothing that is done to a half changes it
+--     tx_opens, rx_opens      an opening leaves what the definitions store for its one rate
+use Rattle.std.proofs.Common.{◌≡◌, ℕ, ◌%◌, ◌<◌, Some, None, Option, refl, ap, ◌∙◌, sym, List, [], ◌∷◌}
+use Rattle.std.proofs.Math.Nat.{mod-eq_of_lt}
+use Rattle.std.proofs.lemmas.Option.{none-some}
+use Rattle.dividers.specs.declared.ConfigError.{ConfigError}
+use Rattle.dividers.specs.declared.DividerRange.{DividerRange}
+use Rattle.dividers.specs.Answers.{eight_bit_range}
+use Rattle.fields.specs.declared.CommonField.{CommonField}
+use Rattle.fields.specs.declared.RxField.{RxField}
+use Rattle.fields.specs.declared.Side.{Side}
+use Rattle.fields.specs.declared.TxField.{TxField}
+use Rattle.blocks.specs.Half.{Half}
+use Rattle.old_setups.specs.declared.ClockNumbers.{ClockNumbers}
+use Rattle.old_setups.specs.declared.Config.{Config}
+use Rattle.old_setups.specs.declared.UnitNumbers.{UnitNumbers}
+use Rattle.old_setups.specs.Configs.{clock_numbers, refusal_of}
+use Rattle.old_setups.specs.Fit.{ClockNumbersFit}
+use Rattle.old_setups.specs.Units.{numbers_of}
+use Rattle.old_setups.proofs.Fit.{accepted_fit}
+use Rattle.chips.specs.Dividers.{Divider, Divides}
+use Rattle.chips.specs.Moves.{opened_common, opened_rx, opened_tx}
+use Rattle.chips.specs.Puts.{puts_common, puts_rx, puts_tx}
+use Rattle.esp32.specs.Chip.{old_at_open, old_masters, old_opens, old_rx, old_rx_divider, old_tx, old_tx_divider, old_updates, on_transmit, open_numbers, open_refusal, open_refused, stored, unit_refusal}
+use Rattle.esp32.specs.Rows.{opening}
+
+pub refused_at : (range : DividerRange) (c : Config) → range ≡ eight_bit_range → refusal_of range c ≡ open_refused c
+unfolding open_refused
+refused_at range c e = ap (λ r. refusal_of r c) e
+
+pub numbers_at : (max : ℕ) (c : Config) → max ≡ 63 → clock_numbers max c ≡ open_numbers c
+unfolding open_numbers
+numbers_at max c e = ap (λ (m : ℕ). clock_numbers m c) e
+
+pub open_fits : (c : Config) → open_refused c ≡ None → ClockNumbersFit (open_numbers c)
+unfolding open_refused open_numbers
+open_fits c none = accepted_fit 63 eight_bit_range c refl none
+
+pub tx_divides : (c : CommonField → ℕ) → Divides old_tx unit_refusal None (λ row. old_tx_divider row c)
+tx_divides c = record { sets = λ u h none. refl; resets = λ h. refl; starts = λ n h. refl; ends = λ h. refl; stops = λ h. refl }
+
+pub rx_divides : (c : CommonField → ℕ) → Divides old_rx unit_refusal None (λ row. old_rx_divider row c)
+rx_divides c = record { sets = λ u h none. refl; resets = λ h. refl; starts = λ n h. refl; ends = λ h. refl; stops = λ h. refl }
+
+passes : (o : Option ConfigError) → on_transmit o ≡ None → o ≡ None
+passes (Some e) h = absurd (none-some _ (sym h))
+passes None h = refl
+
+tx_stores : (t r : UnitNumbers) (n : ClockNumbers) (h : Half TxField) (c : CommonField → ℕ) → ClockNumbersFit n → old_tx_divider (puts_tx (opening t r n) h).fields (puts_common (opening t r n) c) ≡ stored n
+tx_stores t r n h c fit = λ i. record {
+  integer = mod-eq_of_lt fit.clkm_div_num i;
+  bit = mod-eq_of_lt fit.tx_bck_div_num i;
+  fraction = mod-eq_of_lt fit.clkm_div_a i ∷ mod-eq_of_lt fit.clkm_div_b i ∷ [];
+}
+
+rx_stores : (t r : UnitNumbers) (n : ClockNumbers) (h : Half RxField) (c : CommonField → ℕ) → ClockNumbersFit n → old_rx_divider (puts_rx (opening t r n) h).fields (puts_common (opening t r n) c) ≡ stored n
+rx_stores t r n h c fit = λ i. record {
+  integer = mod-eq_of_lt fit.clkm_div_num i;
+  bit = mod-eq_of_lt fit.rx_bck_div_num i;
+  fraction = mod-eq_of_lt fit.clkm_div_a i ∷ mod-eq_of_lt fit.clkm_div_b i ∷ [];
+}
+
+pub tx_opens : (o : Config) (h : Half TxField) (c : CommonField → ℕ) → open_refusal o ≡ None
+    → old_tx_divider (opened_tx old_masters old_opens old_updates o h).fields (opened_common old_masters old_opens old_updates o c) ≡ old_at_open o
+tx_opens o h c none =
+    tx_stores (numbers_of o.tx_config o.data_format) (numbers_of o.rx_config o.data_format) (open_numbers o) (old_masters.tx h) c (open_fits o (passes _ none))
+
+pub rx_opens : (o : Config) (h : Half RxField) (c : CommonField → ℕ) → open_refusal o ≡ None
+    → old_rx_divider (opened_rx old_masters old_opens old_updates o h).fields (opened_common old_masters old_opens old_updates o c) ≡ old_at_open o
+rx_opens o h c none =
+    rx_stores (numbers_of o.tx_config o.data_format) (numbers_of o.rx_config o.data_format) (open_numbers o) (old_masters.rx h) c (open_fits o (passes _ none))

@@ -1,0 +1,4 @@
+pub mod Chip
+pub mod Laws
+pub mod Registers
+pub mod Rows

@@ -1,0 +1,4 @@
+pub mod Rows
+pub mod Registers
+pub mod Chip
+pub mod Laws
