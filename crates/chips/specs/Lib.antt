@@ -1,5 +1,7 @@
 pub mod Dividers
 pub mod Interrupts
 pub mod Moves
+pub mod PollLaws
 pub mod Polls
 pub mod Puts
+pub mod Resets

@@ -2,7 +2,6 @@
 --     Moves F U              those on a half with the fields F, under set-ups U of its unit
 --     Opens G                those of configure, under set-ups G of both units
 --     Whole                  those of a function that takes nothing
---     opened_tx, ..          what an opening makes of each part
 --     started m n h          the half h once n polls were allowed to find the start
 --     start_polls m n h      the polls that a start makes, if it is found within n; 0 where it does not poll
 --     wait_polls m n h       the number of the poll that finds the unit finished, if one of n does
@@ -42,16 +41,6 @@ pub record Whole : Type 0 where
   pub tx : Half TxField → Half TxField
   pub rx : Half RxField → Half RxField
   pub common : (CommonField → ℕ) → (CommonField → ℕ)
-
--- set_master, configure and update, one after the other
-abbrev pub opened_tx : {G : Type 0} → Whole → Opens G → Whole → G → Half TxField → Half TxField
-opened_tx first o last g h = last.tx (o.tx g (first.tx h))
-
-abbrev pub opened_rx : {G : Type 0} → Whole → Opens G → Whole → G → Half RxField → Half RxField
-opened_rx first o last g h = last.rx (o.rx g (first.rx h))
-
-abbrev pub opened_common : {G : Type 0} → Whole → Opens G → Whole → G → (CommonField → ℕ) → (CommonField → ℕ)
-opened_common first o last g c = last.common (o.common g (first.common c))
 
 abbrev polls_for : Option Awaited → ℕ → {F : Type 0} → Half F → Option ℕ
 polls_for None n h = Some 0

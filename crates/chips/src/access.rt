@@ -1,5 +1,5 @@
 //! What a chip promises to the units above it.
-ghost use Rattle.std.specs.Prelude.{◌≡◌, ℕ, None, Option, true, false};
+ghost use Rattle.std.specs.Prelude.{◌≡◌, ◌≤◌, ℕ, None, Option, true, false};
 ghost use Rattle.dividers.specs.declared.ConfigError.{ConfigError};
 ghost use Rattle.fields.specs.declared.CommonField.{CommonField};
 ghost use Rattle.fields.specs.declared.RxField.{RxField};
@@ -9,9 +9,9 @@ ghost use Rattle.marks.specs.declared.Events.{Events};
 ghost use Rattle.marks.specs.Events.{intersection};
 ghost use Rattle.marks.specs.Marks.{cleared, enabling};
 ghost use Rattle.blocks.specs.Half.{Half, moved};
-ghost use Rattle.chips.specs.Dividers.{Divider, Divides};
+ghost use Rattle.chips.specs.Dividers.{Divider, Divides, Keeps, settled};
 ghost use Rattle.chips.specs.Interrupts.{interrupts_of, rx_named, tx_named};
-ghost use Rattle.chips.specs.Moves.{Checked, Moves, OnRx, OnTx, Opens, Whole, opened_common, opened_rx, opened_tx, start_polls, started, wait_polls, waited};
+ghost use Rattle.chips.specs.Moves.{Checked, Moves, OnRx, OnTx, Opens, Whole, start_polls, started, wait_polls, waited};
 
 use crate::interrupts::I2sInterrupts;
 use blocks::RegBlock;
@@ -97,13 +97,15 @@ pub trait RegisterAccessPrivate: RegBlock {
     fn enable_listen(&mut self, interrupts: I2sInterrupts, enable: bool)
         ensures tx { Self.tx self.new ≡ moved (enabling (intersection (tx_named interrupts) own_events) enable) (Self.tx self.old) }
         ensures rx { Self.rx self.new ≡ moved (enabling (intersection (rx_named interrupts) own_events) enable) (Self.rx self.old) }
-        ensures common { Self.common self.new ≡ Self.common self.old };
+        ensures common { Self.common self.new ≡ Self.common self.old }
+        ensures dividers { Keeps Self.tx Self.rx Self.common tx_divider rx_divider self.old self.new };
 
     /// Turns the named events on.
     fn listen(&mut self, interrupts: I2sInterrupts)
         ensures tx { Self.tx self.new ≡ moved (enabling (intersection (tx_named interrupts) own_events) true) (Self.tx self.old) }
         ensures rx { Self.rx self.new ≡ moved (enabling (intersection (rx_named interrupts) own_events) true) (Self.rx self.old) }
         ensures common { Self.common self.new ≡ Self.common self.old }
+        ensures dividers { Keeps Self.tx Self.rx Self.common tx_divider rx_divider self.old self.new }
     {
         self.enable_listen(interrupts, true);
     }
@@ -113,6 +115,7 @@ pub trait RegisterAccessPrivate: RegBlock {
         ensures tx { Self.tx self.new ≡ moved (enabling (intersection (tx_named interrupts) own_events) false) (Self.tx self.old) }
         ensures rx { Self.rx self.new ≡ moved (enabling (intersection (rx_named interrupts) own_events) false) (Self.rx self.old) }
         ensures common { Self.common self.new ≡ Self.common self.old }
+        ensures dividers { Keeps Self.tx Self.rx Self.common tx_divider rx_divider self.old self.new }
     {
         self.enable_listen(interrupts, false);
     }
@@ -126,72 +129,90 @@ pub trait RegisterAccessPrivate: RegBlock {
     fn clear_interrupts(&mut self, interrupts: I2sInterrupts)
         ensures tx { Self.tx self.new ≡ moved (cleared (intersection (tx_named interrupts) own_events)) (Self.tx self.old) }
         ensures rx { Self.rx self.new ≡ moved (cleared (intersection (rx_named interrupts) own_events)) (Self.rx self.old) }
-        ensures common { Self.common self.new ≡ Self.common self.old };
+        ensures common { Self.common self.new ≡ Self.common self.old }
+        ensures dividers { Keeps Self.tx Self.rx Self.common tx_divider rx_divider self.old self.new };
 
     /// Makes the chip the master of both halves' clocks.
     fn set_master(&mut self)
         ensures tx { Self.tx self.new ≡ masters.tx (Self.tx self.old) }
         ensures rx { Self.rx self.new ≡ masters.rx (Self.rx self.old) }
-        ensures common { Self.common self.new ≡ masters.common (Self.common self.old) };
+        ensures common { Self.common self.new ≡ masters.common (Self.common self.old) }
+        ensures dividers { Keeps Self.tx Self.rx Self.common tx_divider rx_divider self.old self.new };
 
     /// Takes the set-up of both units over.
     fn configure(&mut self, opening: &Self::Opening)
         ensures tx { Self.tx self.new ≡ opens.tx (from_open opening.now) (Self.tx self.old) }
         ensures rx { Self.rx self.new ≡ opens.rx (from_open opening.now) (Self.rx self.old) }
-        ensures common { Self.common self.new ≡ opens.common (from_open opening.now) (Self.common self.old) };
+        ensures common { Self.common self.new ≡ opens.common (from_open opening.now) (Self.common self.old) }
+        ensures tx_divider { tx_divider (Self.tx self.new).fields (Self.common self.new) ≡ tx_at_open (from_open opening.now) }
+        ensures rx_divider { rx_divider (Self.rx self.new).fields (Self.common self.new) ≡ rx_at_open (from_open opening.now) };
 
     /// Has both halves take over what was put, transmit first.
     fn update(&mut self)
         ensures tx { Self.tx self.new ≡ updates.tx (Self.tx self.old) }
         ensures rx { Self.rx self.new ≡ updates.rx (Self.rx self.old) }
-        ensures common { Self.common self.new ≡ updates.common (Self.common self.old) };
+        ensures common { Self.common self.new ≡ updates.common (Self.common self.old) }
+        ensures dividers { Keeps Self.tx Self.rx Self.common tx_divider rx_divider self.old self.new };
 
     /// Takes a unit's set-up over into the transmit half.
     fn configure_tx(&mut self, setup: &Self::Setup)
-        ensures { OnTx Self.tx Self.rx Self.common (tx_moves.sets (from setup.now)) self.old self.new };
+        ensures half { OnTx Self.tx Self.rx Self.common (tx_moves.sets (from setup.now)) self.old self.new }
+        ensures divider { tx_divider (Self.tx self.new).fields (Self.common self.new) ≡ settled own_divider (from setup.now) (tx_divider (Self.tx self.old).fields (Self.common self.old)) };
 
     /// Takes a unit's set-up over into the receive half.
     fn configure_rx(&mut self, setup: &Self::Setup)
-        ensures { OnRx Self.tx Self.rx Self.common (rx_moves.sets (from setup.now)) self.old self.new };
+        ensures half { OnRx Self.tx Self.rx Self.common (rx_moves.sets (from setup.now)) self.old self.new }
+        ensures divider { rx_divider (Self.rx self.new).fields (Self.common self.new) ≡ settled own_divider (from setup.now) (rx_divider (Self.rx self.old).fields (Self.common self.old)) };
 
     /// Resets the transmit half and clears the events of its last transfer.
     fn reset_tx(&mut self)
-        ensures { OnTx Self.tx Self.rx Self.common tx_moves.resets self.old self.new };
+        ensures half { OnTx Self.tx Self.rx Self.common tx_moves.resets self.old self.new }
+        ensures dividers { Keeps Self.tx Self.rx Self.common tx_divider rx_divider self.old self.new };
 
     /// Starts the transmit half; the polls made, or none where it was never found busy within the allowance.
     fn tx_start(&mut self, allowance: u16) -> Option<u32>
         ensures answer { result ≡ start_polls tx_moves allowance (tx_moves.starts 0 (Self.tx self.old)) }
-        ensures half { OnTx Self.tx Self.rx Self.common (λ h. started tx_moves allowance (tx_moves.starts 0 h)) self.old self.new };
+        ensures half { OnTx Self.tx Self.rx Self.common (λ h. started tx_moves allowance (tx_moves.starts 0 h)) self.old self.new }
+        ensures dividers { Keeps Self.tx Self.rx Self.common tx_divider rx_divider self.old self.new };
 
     /// Stops the transmit half, and resets nothing.
     fn tx_stop(&mut self)
-        ensures { OnTx Self.tx Self.rx Self.common tx_moves.stops self.old self.new };
+        ensures half { OnTx Self.tx Self.rx Self.common tx_moves.stops self.old self.new }
+        ensures dividers { Keeps Self.tx Self.rx Self.common tx_divider rx_divider self.old self.new };
 
     /// Polls until the transmit half is finished, and then stops it; the polls made, or none where the allowance is used up.
     fn wait_for_tx_done(&mut self, allowance: u16) -> Option<u32>
         ensures answer { result ≡ wait_polls tx_moves allowance (Self.tx self.old) }
-        ensures half { OnTx Self.tx Self.rx Self.common (waited tx_moves allowance) self.old self.new };
+        ensures half { OnTx Self.tx Self.rx Self.common (waited tx_moves allowance) self.old self.new }
+        ensures dividers { Keeps Self.tx Self.rx Self.common tx_divider rx_divider self.old self.new };
 
     /// Resets the receive half and clears the events of its last transfer.
     fn reset_rx(&mut self)
-        ensures { OnRx Self.tx Self.rx Self.common rx_moves.resets self.old self.new };
+        ensures half { OnRx Self.tx Self.rx Self.common rx_moves.resets self.old self.new }
+        ensures dividers { Keeps Self.tx Self.rx Self.common tx_divider rx_divider self.old self.new };
 
     /// Starts the receive half for a length in bytes.
     fn rx_start(&mut self, len: u32)
-        ensures { OnRx Self.tx Self.rx Self.common (rx_moves.starts len) self.old self.new };
+        ensures half { OnRx Self.tx Self.rx Self.common (rx_moves.starts len) self.old self.new }
+        ensures dividers { Keeps Self.tx Self.rx Self.common tx_divider rx_divider self.old self.new };
 
     /// Polls until the receive half is finished, and then clears the event of its end; the polls made, or none where the allowance
     /// is used up.
     fn wait_for_rx_done(&mut self, allowance: u16) -> Option<u32>
         ensures answer { result ≡ wait_polls rx_moves allowance (Self.rx self.old) }
-        ensures half { OnRx Self.tx Self.rx Self.common (waited rx_moves allowance) self.old self.new };
+        ensures half { OnRx Self.tx Self.rx Self.common (waited rx_moves allowance) self.old self.new }
+        ensures dividers { Keeps Self.tx Self.rx Self.common tx_divider rx_divider self.old self.new };
 
-    // Of all that is done to a half, only an accepted set-up changes its divider; and an opening leaves those of its set-up.
+    // What is known of every chip: its largest denominator is one for which each fraction is nearest; of all that is done to a half, only an accepted set-up changes its divider; and an opening leaves those of its set-up.
+    ghost max_least: { 3 ≤ MAX };
+
+    ghost max_most: { MAX ≤ 1000 };
+
     ghost tx_divides: { (c : CommonField → ℕ) → Divides tx_moves refusal own_divider (λ row. tx_divider row c) };
 
     ghost rx_divides: { (c : CommonField → ℕ) → Divides rx_moves refusal own_divider (λ row. rx_divider row c) };
 
-    ghost tx_opens: { (o : Self.Config) (h : Half TxField) (c : CommonField → ℕ) → open_refusal o ≡ None → tx_divider (opened_tx masters opens updates o h).fields (opened_common masters opens updates o c) ≡ tx_at_open o };
+    ghost tx_opens: { (o : Self.Config) (h : Half TxField) (c : CommonField → ℕ) → open_refusal o ≡ None → tx_divider (opens.tx o h).fields (opens.common o c) ≡ tx_at_open o };
 
-    ghost rx_opens: { (o : Self.Config) (h : Half RxField) (c : CommonField → ℕ) → open_refusal o ≡ None → rx_divider (opened_rx masters opens updates o h).fields (opened_common masters opens updates o c) ≡ rx_at_open o };
+    ghost rx_opens: { (o : Self.Config) (h : Half RxField) (c : CommonField → ℕ) → open_refusal o ≡ None → rx_divider (opens.rx o h).fields (opens.common o c) ≡ rx_at_open o };
 }

@@ -2,7 +2,8 @@
 --     refused_at, numbers_at  what the definitions of an opening stand for
 --     tx_divides, rx_divides  nothing that is done to a half changes it
 --     tx_opens, rx_opens      an opening leaves what the definitions store for its one rate
-use Rattle.std.proofs.Common.{◌≡◌, ℕ, ◌%◌, ◌<◌, Some, None, Option, refl, ap, ◌∙◌, sym, List, [], ◌∷◌}
+--     tx_settles, rx_settles  so do its puts
+use Rattle.std.proofs.Common.{◌≡◌, ℕ, ◌%◌, ◌<◌, Some, None, Option, refl, ap, ◌∙◌, sym, subst, List, [], ◌∷◌}
 use Rattle.std.proofs.Math.Nat.{mod-eq_of_lt}
 use Rattle.std.proofs.lemmas.Option.{none-some}
 use Rattle.dividers.specs.declared.ConfigError.{ConfigError}
@@ -21,9 +22,8 @@ use Rattle.old_setups.specs.Fit.{ClockNumbersFit}
 use Rattle.old_setups.specs.Units.{numbers_of}
 use Rattle.old_setups.proofs.Fit.{accepted_fit}
 use Rattle.chips.specs.Dividers.{Divider, Divides}
-use Rattle.chips.specs.Moves.{opened_common, opened_rx, opened_tx}
 use Rattle.chips.specs.Puts.{puts_common, puts_rx, puts_tx}
-use Rattle.esp32.specs.Chip.{old_at_open, old_masters, old_opens, old_rx, old_rx_divider, old_tx, old_tx_divider, old_updates, on_transmit, open_numbers, open_refusal, open_refused, stored, unit_refusal}
+use Rattle.esp32.specs.Chip.{old_at_open, old_opens, old_rx, old_rx_divider, old_tx, old_tx_divider, on_transmit, open_numbers, open_refusal, open_refused, stored, unit_refusal}
 use Rattle.esp32.specs.Rows.{opening}
 
 pub refused_at : (range : DividerRange) (c : Config) → range ≡ eight_bit_range → refusal_of range c ≡ open_refused c
@@ -63,11 +63,21 @@ rx_stores t r n h c fit = λ i. record {
 }
 
 pub tx_opens : (o : Config) (h : Half TxField) (c : CommonField → ℕ) → open_refusal o ≡ None
-    → old_tx_divider (opened_tx old_masters old_opens old_updates o h).fields (opened_common old_masters old_opens old_updates o c) ≡ old_at_open o
+    → old_tx_divider (old_opens.tx o h).fields (old_opens.common o c) ≡ old_at_open o
 tx_opens o h c none =
-    tx_stores (numbers_of o.tx_config o.data_format) (numbers_of o.rx_config o.data_format) (open_numbers o) (old_masters.tx h) c (open_fits o (passes _ none))
+    tx_stores (numbers_of o.tx_config o.data_format) (numbers_of o.rx_config o.data_format) (open_numbers o) h c (open_fits o (passes _ none))
 
 pub rx_opens : (o : Config) (h : Half RxField) (c : CommonField → ℕ) → open_refusal o ≡ None
-    → old_rx_divider (opened_rx old_masters old_opens old_updates o h).fields (opened_common old_masters old_opens old_updates o c) ≡ old_at_open o
+    → old_rx_divider (old_opens.rx o h).fields (old_opens.common o c) ≡ old_at_open o
 rx_opens o h c none =
-    rx_stores (numbers_of o.tx_config o.data_format) (numbers_of o.rx_config o.data_format) (open_numbers o) (old_masters.rx h) c (open_fits o (passes _ none))
+    rx_stores (numbers_of o.tx_config o.data_format) (numbers_of o.rx_config o.data_format) (open_numbers o) h c (open_fits o (passes _ none))
+
+pub tx_settles : (t r : UnitNumbers) (n : ClockNumbers) (o : Config) (h g : Half TxField) (c d : CommonField → ℕ) → open_refused o ≡ None → n ≡ open_numbers o
+    → g ≡ puts_tx (opening t r n) h → d ≡ puts_common (opening t r n) c → old_tx_divider g.fields d ≡ old_at_open o
+tx_settles t r n o h g c d none numbers put shared =
+    (λ i. old_tx_divider (put i).fields (shared i)) ∙ tx_stores t r n h c (subst ClockNumbersFit (sym numbers) (open_fits o none)) ∙ ap stored numbers
+
+pub rx_settles : (t r : UnitNumbers) (n : ClockNumbers) (o : Config) (h g : Half RxField) (c d : CommonField → ℕ) → open_refused o ≡ None → n ≡ open_numbers o
+    → g ≡ puts_rx (opening t r n) h → d ≡ puts_common (opening t r n) c → old_rx_divider g.fields d ≡ old_at_open o
+rx_settles t r n o h g c d none numbers put shared =
+    (λ i. old_rx_divider (put i).fields (shared i)) ∙ rx_stores t r n h c (subst ClockNumbersFit (sym numbers) (open_fits o none)) ∙ ap stored numbers

@@ -1,4 +1,5 @@
 //! The old chip over a block.
+ghost use Rattle.std.proofs.Common.{rules};
 ghost use Rattle.std.specs.Prelude.{◌≡◌, None};
 ghost use Rattle.esp32.specs.Chip.{old_at_open, old_masters, old_opens, old_own_events, old_rx, old_rx_divider, old_tx, old_tx_divider, old_updates, open_refusal, unit_refusal};
 ghost use Rattle.esp32.specs.Laws.{rx_divides, rx_opens, tx_divides, tx_opens};
@@ -115,6 +116,10 @@ impl<B: RegBlock> RegisterAccessPrivate for Esp32<B> {
     ghost tx_at_open = { old_at_open };
 
     ghost rx_at_open = { old_at_open };
+
+    ghost max_least = { Prim.search rules };
+
+    ghost max_most = { Prim.search rules };
 
     ghost tx_divides = { tx_divides };
 

@@ -1,9 +1,10 @@
 //! The old chip's register functions over any block.
-ghost use Rattle.std.specs.Prelude.{◌≡◌};
+ghost use Rattle.std.specs.Prelude.{◌≡◌, true, false};
 ghost use Rattle.chips.specs.Moves.{OnRx, OnTx};
+ghost use Rattle.chips.specs.Resets.{AfterReset};
 ghost use Rattle.chips.specs.Puts.{puts_common, puts_rx, puts_tx};
 ghost use Rattle.esp32.specs.Rows.{clock, opening, rx_set, tx_set};
-ghost use Rattle.esp32.specs.Registers.{rx_ended, rx_reset, rx_started, tx_raised, tx_reset, tx_stopped};
+ghost use Rattle.esp32.specs.Registers.{link_ends, rx_ended, rx_reset, rx_started, tx_raised, tx_reset, tx_stopped};
 
 use crate::rows;
 use blocks::RegBlock;
@@ -73,7 +74,9 @@ pub fn configure<B: RegBlock>(
 
 /// Resets the transmit half with its link, and clears out_done and out_total_eof.
 pub fn reset_tx<B: RegBlock>(block: &mut B)
-    ensures { OnTx B.tx B.rx B.common tx_reset block.old block.new }
+    ensures half { OnTx B.tx B.rx B.common tx_reset block.old block.new }
+    ensures leaves { AfterReset link_ends (B.tx block.old) (B.tx block.new) }
+    ensures link { (B.tx block.new).marks.link ≡ false }
 {
     block.put(Field::Tx(TxField::OldTxReset), 1);
     block.put(Field::Tx(TxField::OldTxFifoReset), 1);
@@ -86,7 +89,8 @@ pub fn reset_tx<B: RegBlock>(block: &mut B)
 
 /// Starts the transmit half.
 pub fn tx_raise<B: RegBlock>(block: &mut B)
-    ensures { OnTx B.tx B.rx B.common tx_raised block.old block.new }
+    ensures half { OnTx B.tx B.rx B.common tx_raised block.old block.new }
+    ensures busy { (B.tx block.new).marks.busy ≡ true }
 {
     block.put(Field::Tx(TxField::OldTxStart), 1);
 }
@@ -100,7 +104,9 @@ pub fn tx_stop<B: RegBlock>(block: &mut B)
 
 /// Resets the receive half with its link, and clears in_done and in_suc_eof; its start field stays.
 pub fn reset_rx<B: RegBlock>(block: &mut B)
-    ensures { OnRx B.tx B.rx B.common rx_reset block.old block.new }
+    ensures half { OnRx B.tx B.rx B.common rx_reset block.old block.new }
+    ensures leaves { AfterReset link_ends (B.rx block.old) (B.rx block.new) }
+    ensures link { (B.rx block.new).marks.link ≡ false }
 {
     block.put(Field::Rx(RxField::OldRxReset), 1);
     block.put(Field::Rx(RxField::OldRxFifoReset), 1);
@@ -113,7 +119,8 @@ pub fn reset_rx<B: RegBlock>(block: &mut B)
 
 /// Starts the receive half for a length in bytes, which is put in words.
 pub fn rx_start<B: RegBlock>(block: &mut B, len: u32)
-    ensures { OnRx B.tx B.rx B.common (rx_started len) block.old block.new }
+    ensures half { OnRx B.tx B.rx B.common (rx_started len) block.old block.new }
+    ensures busy { (B.rx block.new).marks.busy ≡ true }
 {
     block.clear(Side::Receive, EOF);
     block.put(Field::Rx(RxField::OldRxEofNum), len / WORD);

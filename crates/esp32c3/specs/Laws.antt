@@ -1,6 +1,7 @@
 -- What becomes of the divider in the new chip's fields. Assumes nothing.
 --     tx_divides, rx_divides  of all that is done to a half, only an accepted set-up changes it, and to what the definitions store
 --     tx_opens, rx_opens      an opening leaves those of its set-up
+--     tx_settles, rx_settles  the puts of a set-up that passes leave what the definitions store for it
 use Rattle.std.proofs.Common.{◌≡◌, ℕ, ◌%◌, ◌<◌, Bool, true, false, Some, None, Option, refl, ap, ◌∙◌, sym, List, [], ◌∷◌}
 use Rattle.std.proofs.Math.Nat.{mod-eq_of_lt}
 use Rattle.std.proofs.lemmas.Option.{none-some}
@@ -19,9 +20,8 @@ use Rattle.setups.specs.Check.{numbers_of, refusal_of}
 use Rattle.setups.specs.Fit.{NumbersFit}
 use Rattle.setups.proofs.Fit.{accepted_fit}
 use Rattle.chips.specs.Dividers.{Divider, Divides}
-use Rattle.chips.specs.Moves.{opened_common, opened_rx, opened_tx}
 use Rattle.chips.specs.Puts.{puts_rx, puts_tx}
-use Rattle.esp32c3.specs.Chip.{new_divider, new_masters, new_open_refusal, new_opens, new_refusal, new_rx, new_rx_at_open, new_rx_divider, new_tx, new_tx_at_open, new_tx_divider, new_updates, on_side, stored, unit_numbers, unit_refusal}
+use Rattle.esp32c3.specs.Chip.{new_divider, new_open_refusal, new_opens, new_refusal, new_rx, new_rx_at_open, new_rx_divider, new_tx, new_tx_at_open, new_tx_divider, on_side, stored, unit_numbers, unit_refusal}
 use Rattle.esp32c3.specs.Rows.{bit, rx_set, tx_set}
 
 -- what the two stand for
@@ -78,10 +78,20 @@ both_pass s (Some e) next h = absurd (none-some _ (sym h))
 both_pass s None next h = (refl, h)
 
 pub tx_opens : (o : Config) (h : Half TxField) (c : CommonField → ℕ) → new_open_refusal o ≡ None
-    → new_tx_divider (opened_tx new_masters new_opens new_updates o h).fields (opened_common new_masters new_opens new_updates o c) ≡ new_tx_at_open o
-tx_opens o h c none = tx_stores (unit_numbers o.tx_config) (new_masters.tx h) c (unit_fits o.tx_config (both_pass _ _ _ none).0)
+    → new_tx_divider (new_opens.tx o h).fields (new_opens.common o c) ≡ new_tx_at_open o
+tx_opens o h c none = tx_stores (unit_numbers o.tx_config) h c (unit_fits o.tx_config (both_pass _ _ _ none).0)
 
 pub rx_opens : (o : Config) (h : Half RxField) (c : CommonField → ℕ) → new_open_refusal o ≡ None
-    → new_rx_divider (opened_rx new_masters new_opens new_updates o h).fields (opened_common new_masters new_opens new_updates o c) ≡ new_rx_at_open o
+    → new_rx_divider (new_opens.rx o h).fields (new_opens.common o c) ≡ new_rx_at_open o
 rx_opens o h c none =
-    rx_stores (unit_numbers o.rx_config) (new_masters.rx h) c (unit_fits o.rx_config (both_pass _ _ _ (both_pass _ _ _ none).1).0)
+    rx_stores (unit_numbers o.rx_config) h c (unit_fits o.rx_config (both_pass _ _ _ (both_pass _ _ _ none).1).0)
+
+pub tx_settles : (u : UnitConfig) (n : UnitNumbers) (h g : Half TxField) (c : CommonField → ℕ) → unit_refusal u ≡ None → n ≡ unit_numbers u → g ≡ puts_tx (tx_set n) h
+    → new_tx_divider g.fields c ≡ stored (unit_numbers u)
+tx_settles u n h g c none numbers put =
+    ap (λ k. new_tx_divider k.fields c) (put ∙ ap (λ m. puts_tx (tx_set m) h) numbers) ∙ tx_stores (unit_numbers u) h c (unit_fits u none)
+
+pub rx_settles : (u : UnitConfig) (n : UnitNumbers) (h g : Half RxField) (c : CommonField → ℕ) → unit_refusal u ≡ None → n ≡ unit_numbers u → g ≡ puts_rx (rx_set n) h
+    → new_rx_divider g.fields c ≡ stored (unit_numbers u)
+rx_settles u n h g c none numbers put =
+    ap (λ k. new_rx_divider k.fields c) (put ∙ ap (λ m. puts_rx (rx_set m) h) numbers) ∙ rx_stores (unit_numbers u) h c (unit_fits u none)

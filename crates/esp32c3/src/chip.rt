@@ -1,4 +1,5 @@
 //! The new chip over a block.
+ghost use Rattle.std.proofs.Common.{rules};
 ghost use Rattle.std.specs.Prelude.{◌≡◌, None, Some};
 ghost use Rattle.esp32c3.specs.Chip.{new_divider, new_keeps, new_masters, new_open_refusal, new_opens, new_own_events, new_refusal, new_rx, new_rx_at_open, new_rx_divider, new_tx, new_tx_at_open, new_tx_divider, new_updates};
 ghost use Rattle.esp32c3.specs.Laws.{rx_divides, rx_opens, tx_divides, tx_opens};
@@ -122,6 +123,10 @@ impl<B: RegBlock> RegisterAccessPrivate for Esp32C3<B> {
     ghost tx_at_open = { new_tx_at_open };
 
     ghost rx_at_open = { new_rx_at_open };
+
+    ghost max_least = { Prim.search rules };
+
+    ghost max_most = { Prim.search rules };
 
     ghost tx_divides = { tx_divides };
 

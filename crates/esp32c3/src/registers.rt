@@ -1,10 +1,11 @@
 //! The new chip's register functions over any block. A chip with the same fields uses these as they are.
-ghost use Rattle.std.specs.Prelude.{◌≡◌};
+ghost use Rattle.std.specs.Prelude.{◌≡◌, true};
 ghost use Rattle.fields.specs.declared.TxField.{TxField};
 ghost use Rattle.chips.specs.Moves.{OnRx, OnTx};
+ghost use Rattle.chips.specs.Resets.{AfterReset};
 ghost use Rattle.chips.specs.Puts.{puts_rx, puts_tx};
 ghost use Rattle.esp32c3.specs.Rows.{rx_clock, rx_form, rx_set, tx_clock, tx_form, tx_set};
-ghost use Rattle.esp32c3.specs.Registers.{rx_ended, rx_reset, rx_started, rx_updated, tx_reset, tx_started, tx_stopped, tx_updated};
+ghost use Rattle.esp32c3.specs.Registers.{done_and_hung, rx_ended, rx_reset, rx_started, rx_updated, tx_reset, tx_started, tx_stopped, tx_updated};
 
 use crate::rows::{rx_clock, rx_form, tx_clock, tx_form};
 use blocks::RegBlock;
@@ -77,7 +78,9 @@ pub fn update_rx<B: RegBlock>(block: &mut B)
 
 /// Resets the transmit half and clears tx_done and tx_hung.
 pub fn reset_tx<B: RegBlock>(block: &mut B)
-    ensures { OnTx B.tx B.rx B.common tx_reset block.old block.new }
+    ensures half { OnTx B.tx B.rx B.common tx_reset block.old block.new }
+    ensures leaves { AfterReset done_and_hung (B.tx block.old) (B.tx block.new) }
+    ensures link { (B.tx block.new).marks.link ≡ (B.tx block.old).marks.link }
 {
     block.put(Field::Tx(TxField::NewTxReset), 1);
     block.put(Field::Tx(TxField::NewTxFifoReset), 1);
@@ -88,7 +91,8 @@ pub fn reset_tx<B: RegBlock>(block: &mut B)
 
 /// Starts the transmit half.
 pub fn tx_start<B: RegBlock>(block: &mut B)
-    ensures { OnTx B.tx B.rx B.common tx_started block.old block.new }
+    ensures half { OnTx B.tx B.rx B.common tx_started block.old block.new }
+    ensures busy { (B.tx block.new).marks.busy ≡ true }
 {
     block.put(Field::Tx(TxField::NewTxStart), 1);
 }
@@ -102,7 +106,9 @@ pub fn tx_stop<B: RegBlock>(block: &mut B)
 
 /// Resets the receive half, its start field first, and clears rx_done and rx_hung.
 pub fn reset_rx<B: RegBlock>(block: &mut B)
-    ensures { OnRx B.tx B.rx B.common rx_reset block.old block.new }
+    ensures half { OnRx B.tx B.rx B.common rx_reset block.old block.new }
+    ensures leaves { AfterReset done_and_hung (B.rx block.old) (B.rx block.new) }
+    ensures link { (B.rx block.new).marks.link ≡ (B.rx block.old).marks.link }
 {
     block.put(Field::Rx(RxField::NewRxStart), 0);
     block.put(Field::Rx(RxField::NewRxReset), 1);
@@ -114,7 +120,8 @@ pub fn reset_rx<B: RegBlock>(block: &mut B)
 
 /// Starts the receive half for a length in bytes, which is put less 1.
 pub fn rx_start<B: RegBlock>(block: &mut B, len: u32)
-    ensures { OnRx B.tx B.rx B.common (rx_started len) block.old block.new }
+    ensures half { OnRx B.tx B.rx B.common (rx_started len) block.old block.new }
+    ensures busy { (B.rx block.new).marks.busy ≡ true }
 {
     block.put(Field::Rx(RxField::NewRxEofNum), len.saturating_sub(1));
     block.put(Field::Rx(RxField::NewRxStart), 1);
