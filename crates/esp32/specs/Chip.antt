@@ -30,8 +30,8 @@ use Rattle.chips.specs.declared.Awaited.TheVariants.{TxBusy, TxIdle, RxEof}
 use Rattle.chips.specs.Dividers.{Divider}
 use Rattle.chips.specs.Moves.{Moves, Opens, Whole}
 use Rattle.chips.specs.Puts.{puts_common, puts_rx, puts_tx}
-use Rattle.esp32.specs.Registers.{hung_alone, rx_ended, rx_reset, rx_started, tx_raised, tx_reset, tx_stopped}
-use Rattle.esp32.specs.Rows.{opening, rx_set, tx_set}
+use Rattle.old_registers.specs.Registers.{hung_alone, rx_ended, rx_reset, rx_started, tx_raised, tx_reset, tx_stopped}
+use Rattle.old_registers.specs.Rows.{opening, rx_set, tx_set}
 
 abbrev pub old_own_events : Events
 old_own_events = hung_alone

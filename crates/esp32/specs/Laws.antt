@@ -24,7 +24,7 @@ use Rattle.old_setups.proofs.Fit.{accepted_fit}
 use Rattle.chips.specs.Dividers.{Divider, Divides}
 use Rattle.chips.specs.Puts.{puts_common, puts_rx, puts_tx}
 use Rattle.esp32.specs.Chip.{old_at_open, old_opens, old_rx, old_rx_divider, old_tx, old_tx_divider, on_transmit, open_numbers, open_refusal, open_refused, stored, unit_refusal}
-use Rattle.esp32.specs.Rows.{opening}
+use Rattle.old_registers.specs.Rows.{opening}
 
 pub refused_at : (range : DividerRange) (c : Config) → range ≡ eight_bit_range → refusal_of range c ≡ open_refused c
 unfolding open_refused

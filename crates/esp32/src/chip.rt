@@ -4,7 +4,6 @@ ghost use Rattle.std.specs.Prelude.{◌≡◌, None};
 ghost use Rattle.esp32.specs.Chip.{old_at_open, old_masters, old_opens, old_own_events, old_rx, old_rx_divider, old_tx, old_tx_divider, old_updates, open_refusal, unit_refusal};
 ghost use Rattle.esp32.specs.Laws.{rx_divides, rx_opens, tx_divides, tx_opens};
 
-use crate::registers;
 use crate::setup::{Opening, UnitSetup};
 use blocks::RegBlock;
 use chips::{
@@ -14,6 +13,7 @@ use chips::{
 use dividers::ConfigError;
 use fields::{Field, RxField, Side, TxField};
 use marks::Events;
+use old_registers as registers;
 use old_setups::{Config, DataFormat, UnitConfig};
 
 // The chip's events: hung of either half.

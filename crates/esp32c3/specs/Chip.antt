@@ -20,8 +20,8 @@ use Rattle.chips.specs.declared.Awaited.TheVariants.{TxIdle, RxDone}
 use Rattle.chips.specs.Dividers.{Divider}
 use Rattle.chips.specs.Moves.{Moves, Opens, Whole}
 use Rattle.chips.specs.Puts.{puts_rx, puts_tx}
-use Rattle.esp32c3.specs.Registers.{done_and_hung, rx_ended, rx_reset, rx_started, rx_updated, tx_reset, tx_started, tx_stopped, tx_updated}
-use Rattle.esp32c3.specs.Rows.{bit, rx_set, tx_set}
+use Rattle.new_registers.specs.Registers.{done_and_hung, rx_ended, rx_reset, rx_started, rx_updated, tx_reset, tx_started, tx_stopped, tx_updated}
+use Rattle.new_registers.specs.Rows.{bit, rx_set, tx_set}
 
 abbrev pub new_own_events : Events
 new_own_events = done_and_hung

@@ -22,7 +22,7 @@ use Rattle.setups.proofs.Fit.{accepted_fit}
 use Rattle.chips.specs.Dividers.{Divider, Divides}
 use Rattle.chips.specs.Puts.{puts_rx, puts_tx}
 use Rattle.esp32c3.specs.Chip.{new_divider, new_open_refusal, new_opens, new_refusal, new_rx, new_rx_at_open, new_rx_divider, new_tx, new_tx_at_open, new_tx_divider, on_side, stored, unit_numbers, unit_refusal}
-use Rattle.esp32c3.specs.Rows.{bit, rx_set, tx_set}
+use Rattle.new_registers.specs.Rows.{bit, rx_set, tx_set}
 
 -- what the two stand for
 pub refusal_at : (max : ℕ) (range : DividerRange) (u : UnitConfig) → max ≡ 511 → range ≡ eight_bit_range → refusal_of max range u ≡ unit_refusal u

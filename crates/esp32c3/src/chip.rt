@@ -4,7 +4,6 @@ ghost use Rattle.std.specs.Prelude.{◌≡◌, None, Some};
 ghost use Rattle.esp32c3.specs.Chip.{new_divider, new_keeps, new_masters, new_open_refusal, new_opens, new_own_events, new_refusal, new_rx, new_rx_at_open, new_rx_divider, new_tx, new_tx_at_open, new_tx_divider, new_updates};
 ghost use Rattle.esp32c3.specs.Laws.{rx_divides, rx_opens, tx_divides, tx_opens};
 
-use crate::registers;
 use crate::setup::UnitSetup;
 use blocks::RegBlock;
 use chips::{
@@ -14,6 +13,7 @@ use chips::{
 use dividers::ConfigError;
 use fields::{Field, RxField, Side, TxField};
 use marks::Events;
+use new_registers as registers;
 use setups::esp32c3::{Config, DataFormat, UnitConfig};
 
 // The chip's events: hung and done of either half.

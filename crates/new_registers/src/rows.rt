@@ -1,6 +1,6 @@
 //! The rows that the chip puts for a set-up, in the published driver's order.
 ghost use Rattle.std.specs.Prelude.{◌≡◌, ◌<◌};
-ghost use Rattle.esp32c3.specs.Rows.{rx_clock, rx_form, slot, tx_clock, tx_form};
+ghost use Rattle.new_registers.specs.Rows.{rx_clock, rx_form, slot, tx_clock, tx_form};
 
 use fields::{Field, RxField, TxField};
 use setups::esp32c3::UnitNumbers;

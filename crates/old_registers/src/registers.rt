@@ -3,8 +3,8 @@ ghost use Rattle.std.specs.Prelude.{◌≡◌, true, false};
 ghost use Rattle.chips.specs.Moves.{OnRx, OnTx};
 ghost use Rattle.chips.specs.Resets.{AfterReset};
 ghost use Rattle.chips.specs.Puts.{puts_common, puts_rx, puts_tx};
-ghost use Rattle.esp32.specs.Rows.{clock, opening, rx_set, tx_set};
-ghost use Rattle.esp32.specs.Registers.{link_ends, rx_ended, rx_reset, rx_started, tx_raised, tx_reset, tx_stopped};
+ghost use Rattle.old_registers.specs.Rows.{clock, opening, rx_set, tx_set};
+ghost use Rattle.old_registers.specs.Registers.{link_ends, rx_ended, rx_reset, rx_started, tx_raised, tx_reset, tx_stopped};
 
 use crate::rows;
 use blocks::RegBlock;

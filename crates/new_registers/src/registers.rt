@@ -4,8 +4,8 @@ ghost use Rattle.fields.specs.declared.TxField.{TxField};
 ghost use Rattle.chips.specs.Moves.{OnRx, OnTx};
 ghost use Rattle.chips.specs.Resets.{AfterReset};
 ghost use Rattle.chips.specs.Puts.{puts_rx, puts_tx};
-ghost use Rattle.esp32c3.specs.Rows.{rx_clock, rx_form, rx_set, tx_clock, tx_form, tx_set};
-ghost use Rattle.esp32c3.specs.Registers.{done_and_hung, rx_ended, rx_reset, rx_started, rx_updated, tx_reset, tx_started, tx_stopped, tx_updated};
+ghost use Rattle.new_registers.specs.Rows.{rx_clock, rx_form, rx_set, tx_clock, tx_form, tx_set};
+ghost use Rattle.new_registers.specs.Registers.{done_and_hung, rx_ended, rx_reset, rx_started, rx_updated, tx_reset, tx_started, tx_stopped, tx_updated};
 
 use crate::rows::{rx_clock, rx_form, tx_clock, tx_form};
 use blocks::RegBlock;

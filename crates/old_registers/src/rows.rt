@@ -1,6 +1,6 @@
 //! The rows that the chip puts for a set-up, in the published driver's order.
 ghost use Rattle.std.specs.Prelude.{◌≡◌};
-ghost use Rattle.esp32.specs.Rows.{clock, form, rx_set, tx_set};
+ghost use Rattle.old_registers.specs.Rows.{clock, form, rx_set, tx_set};
 
 use fields::{CommonField, Field, RxField, TxField};
 use old_setups::{ClockNumbers, UnitNumbers};
