@@ -1,7 +1,7 @@
 use Rattle.std.proofs.Common.{◌≡◌, rules}
 use Rattle.std.proofs.lemmas.Str.Parse.{parse_digits}
-use Rattle.plans.proofs.Digits.{digits_are_text, numerals}
-use Rattle.plans.proofs.read.value.Goals as goal
+use Rattle.words.proofs.Decimals.{digits_are_text, numerals}
+use Rattle.words.proofs.numbers.value.Goals as goal
 
 -- the search does not name the text that the digits are, nor what is parsed of it
 pub unwrap-requires : goal.unwrap-requires

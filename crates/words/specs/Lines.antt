@@ -1,0 +1,30 @@
+-- The lines of a text. Assumes nothing.
+--     is_line_feed b              whether a byte ends a line
+--     line_in, past_line          the first line of a text, and what follows its end
+--     IsFirstLine text line rest  the line has no line feed, and the text is the line, a line feed and the rest, or the line alone
+--     text_left lines             what the lines are still to be taken from
+--     TakesLine text r rest       the first line of a text is taken, or there is none
+use Rattle.std.specs.Prelude.{◌≡◌, ℕ, ◌<◌, Bool, true, false, not, ◌⊎◌, List, [], ◌∷◌, ◌++◌, length, Some, None, Option, ◌==◌}
+use Rattle.std.specs.List.{list_all, before_first, after_first}
+use Rattle.std.specs.Borrow.{Bor}
+use Rattle.words.specs.declared.lines.Lines.{Lines}
+
+abbrev pub is_line_feed : ℕ → Bool
+is_line_feed b = b == 10
+
+abbrev pub line_in : List ℕ → List ℕ
+line_in text = before_first is_line_feed text
+
+abbrev pub past_line : List ℕ → List ℕ
+past_line text = after_first is_line_feed text
+
+pub record IsFirstLine (text line rest : List ℕ) : Type 0 where
+  pub unbroken : list_all (λ b. not (is_line_feed b)) line ≡ true
+  pub whole : (text ≡ line ++ (10 ∷ rest)) ⊎ ((text ≡ line) × (rest ≡ []))
+
+abbrev pub text_left : Lines → List ℕ
+text_left lines = lines.text.now
+
+abbrev pub TakesLine : List ℕ → Option (Bor (List ℕ)) → List ℕ → Type 0
+TakesLine text None rest = (text ≡ []) × (rest ≡ [])
+TakesLine text (Some line) rest = (0 < length text) × (line.now ≡ line_in text) × (rest ≡ past_line text)

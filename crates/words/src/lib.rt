@@ -1,0 +1,10 @@
+//! Texts read byte by byte: lines, words, and words that are decimal numbers.
+#![tactic(auto)]
+
+mod lines;
+mod numbers;
+mod parts;
+
+pub use lines::{Lines, first_line};
+pub use numbers::{NoNumber, number};
+pub use parts::first_word;
