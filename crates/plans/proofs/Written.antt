@@ -9,7 +9,7 @@ use Rattle.plans.specs.Lines.{ReadsWritten, ask_of, fourth_word, number_of, read
 use Rattle.words.specs.Numbers.{is_digits}
 use Rattle.words.specs.Parts.{past_word, word_in}
 use Rattle.words.proofs.Decimals.{Spelt, numerals, spelt}
-use Rattle.words.proofs.Spaced.{first_word, past_word_lem, space_past, space_word}
+use Rattle.words.proofs.Spaced.{digits_unbroken, first_word, past_word_lem, space_past, space_word}
 
 reads : (w : List ℕ) (n most : ℕ) (what : Number) → Spelt n w → n ≤ most → number_of w what most ≡ Ok n
 reads w n most what h le = grind (arith, nat_tests, h.some, h.digits, h.value)
@@ -21,22 +21,22 @@ no_remark w d h = ne_eqb (get_or w 0 0) 35 (not_in_digits numerals w 35 d (λ r.
 -- three words of digits with a space between them, and what is read of them
 module _ (r s b : List ℕ) (i j k : ℕ) (hr : Spelt i r) (hs : Spelt j s) (hb : Spelt k b) where
   past_1 : past_word (r ++ (32 ∷ (s ++ (32 ∷ b)))) ≡ 32 ∷ (s ++ (32 ∷ b))
-  past_1 = past_word_lem r (32 ∷ (s ++ (32 ∷ b))) hr.digits hr.some refl
+  past_1 = past_word_lem r (32 ∷ (s ++ (32 ∷ b))) (digits_unbroken r hr.digits) hr.some refl
 
   past_2 : past_word (past_word (r ++ (32 ∷ (s ++ (32 ∷ b))))) ≡ 32 ∷ b
-  past_2 = ap past_word past_1 ∙ space_past (s ++ (32 ∷ b)) ∙ past_word_lem s (32 ∷ b) hs.digits hs.some refl
+  past_2 = ap past_word past_1 ∙ space_past (s ++ (32 ∷ b)) ∙ past_word_lem s (32 ∷ b) (digits_unbroken s hs.digits) hs.some refl
 
   past_3 : past_word (past_word (past_word (r ++ (32 ∷ (s ++ (32 ∷ b)))))) ≡ []
-  past_3 = ap past_word past_2 ∙ space_past b ∙ ap past_word (sym (append-nil b)) ∙ past_word_lem b [] hb.digits hb.some refl
+  past_3 = ap past_word past_2 ∙ space_past b ∙ ap past_word (sym (append-nil b)) ∙ past_word_lem b [] (digits_unbroken b hb.digits) hb.some refl
 
   word_1 : word_in (r ++ (32 ∷ (s ++ (32 ∷ b)))) ≡ r
-  word_1 = first_word r (32 ∷ (s ++ (32 ∷ b))) hr.digits hr.some refl
+  word_1 = first_word r (32 ∷ (s ++ (32 ∷ b))) (digits_unbroken r hr.digits) hr.some refl
 
   word_2 : second_word (r ++ (32 ∷ (s ++ (32 ∷ b)))) ≡ s
-  word_2 = ap word_in past_1 ∙ space_word (s ++ (32 ∷ b)) ∙ first_word s (32 ∷ b) hs.digits hs.some refl
+  word_2 = ap word_in past_1 ∙ space_word (s ++ (32 ∷ b)) ∙ first_word s (32 ∷ b) (digits_unbroken s hs.digits) hs.some refl
 
   word_3 : third_word (r ++ (32 ∷ (s ++ (32 ∷ b)))) ≡ b
-  word_3 = ap word_in past_2 ∙ space_word b ∙ ap word_in (sym (append-nil b)) ∙ first_word b [] hb.digits hb.some refl
+  word_3 = ap word_in past_2 ∙ space_word b ∙ ap word_in (sym (append-nil b)) ∙ first_word b [] (digits_unbroken b hb.digits) hb.some refl
 
   word_4 : fourth_word (r ++ (32 ∷ (s ++ (32 ∷ b)))) ≡ []
   word_4 = ap word_in past_3

@@ -3,6 +3,7 @@
 --     word_in, past_word          the first word of a text, and what follows it
 --     past_blanks text            a text from its first word on
 --     is_empty text               whether it has no byte
+--     is_unbroken word            whether it has no blank
 --     is_word_end rest            whether a word ends before this
 --     IsFirstWord text word rest  blanks alone stand before the word, which has none and ends at one or at the text's end
 use Rattle.std.specs.Prelude.{◌≡◌, ℕ, Bool, true, not, ◌||◌, List, [], ◌∷◌, ◌++◌, length, drop, ◌==◌}
@@ -24,6 +25,9 @@ word_in text = before_first is_blank (past_blanks text)
 abbrev pub past_word : List ℕ → List ℕ
 past_word text = drop (position_or_len is_blank (past_blanks text)) (past_blanks text)
 
+abbrev pub is_unbroken : List ℕ → Bool
+is_unbroken word = list_all (λ b. not (is_blank b)) word
+
 abbrev pub is_word_end : List ℕ → Bool
 is_word_end [] = true
 is_word_end (b ∷ bs) = is_blank b
@@ -33,6 +37,6 @@ pub record IsFirstWord (text word rest : List ℕ) : Type 0 where
   pub before : List ℕ
   pub whole : text ≡ before ++ (word ++ rest)
   pub blanks : list_all is_blank before ≡ true
-  pub unbroken : list_all (λ b. not (is_blank b)) word ≡ true
+  pub unbroken : is_unbroken word ≡ true
   pub ends : is_word_end rest ≡ true
   pub longest : word ≡ [] → rest ≡ []
