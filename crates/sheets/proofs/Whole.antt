@@ -10,9 +10,9 @@ use Rattle.setups.specs.declared.esp32c3.WsWidth.{WsWidth}
 use Rattle.setups.specs.declared.BitOrder.{BitOrder}
 use Rattle.setups.specs.declared.Endianness.{Endianness}
 use Rattle.setups.specs.declared.Polarity.{Polarity}
-use Rattle.setups.specs.declared.esp32.Channels as OldChannels
-use Rattle.setups.specs.declared.esp32.DataFormat as OldFormat
-use Rattle.setups.specs.declared.esp32.WsWidth as OldWidth
+use Rattle.old_setups.specs.declared.Channels as OldChannels
+use Rattle.old_setups.specs.declared.DataFormat as OldFormat
+use Rattle.old_setups.specs.declared.WsWidth as OldWidth
 use Rattle.sheets.specs.declared.sheet.Sheet.{Sheet}
 use Rattle.sheets.specs.Lacks.{esp32_channels, esp32_format, esp32_width, row_fits}
 use Rattle.sheets.specs.Asked.{Asks, asked_of, is_ready}

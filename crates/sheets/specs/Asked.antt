@@ -12,10 +12,10 @@ use Rattle.entries.specs.declared.Fill.{Fill}
 use Rattle.entries.specs.declared.Fill.TheVariants.{Repeat, Number}
 use Rattle.entries.specs.declared.Row.{Row}
 use Rattle.entries.specs.Keys.{keys_known}
-use Rattle.setups.specs.declared.esp32.Channels as OldChannels
-use Rattle.setups.specs.declared.esp32.Config as Old
-use Rattle.setups.specs.declared.esp32.DataFormat as OldFormat
-use Rattle.setups.specs.declared.esp32.UnitConfig as OldUnit
+use Rattle.old_setups.specs.declared.Channels as OldChannels
+use Rattle.old_setups.specs.declared.Config as Old
+use Rattle.old_setups.specs.declared.DataFormat as OldFormat
+use Rattle.old_setups.specs.declared.UnitConfig as OldUnit
 use Rattle.setups.specs.declared.esp32c3.Channels.{Channels}
 use Rattle.setups.specs.declared.esp32c3.UnitConfig.{UnitConfig}
 use Rattle.setups.specs.Channels.{channels_of}

@@ -13,12 +13,12 @@ use Rattle.entries.specs.declared.Fill.TheVariants.{Repeat, Number}
 use Rattle.entries.specs.declared.Key.{Key}
 use Rattle.entries.specs.declared.Key.TheVariants as K
 use Rattle.entries.specs.declared.Row.{Row}
-use Rattle.setups.specs.declared.esp32.Channels as Old
-use Rattle.setups.specs.declared.esp32.Channels.TheVariants.{Stereo, Mono, Left, Right}
-use Rattle.setups.specs.declared.esp32.DataFormat as OldFormat
-use Rattle.setups.specs.declared.esp32.DataFormat.TheVariants as OldFormats
-use Rattle.setups.specs.declared.esp32.WsWidth as OldWidth
-use Rattle.setups.specs.declared.esp32.WsWidth.TheVariants as OldWidths
+use Rattle.old_setups.specs.declared.Channels as Old
+use Rattle.old_setups.specs.declared.Channels.TheVariants.{Stereo, Mono, Left, Right}
+use Rattle.old_setups.specs.declared.DataFormat as OldFormat
+use Rattle.old_setups.specs.declared.DataFormat.TheVariants as OldFormats
+use Rattle.old_setups.specs.declared.WsWidth as OldWidth
+use Rattle.old_setups.specs.declared.WsWidth.TheVariants as OldWidths
 use Rattle.setups.specs.declared.esp32c3.DataFormat.{DataFormat}
 use Rattle.setups.specs.declared.esp32c3.DataFormat.TheVariants.{Data32Channel32, Data16Channel16}
 use Rattle.setups.specs.declared.esp32c3.WsWidth.{WsWidth}

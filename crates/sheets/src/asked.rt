@@ -7,7 +7,8 @@ use crate::reading::Reading;
 use crate::sheet::Sheet;
 use dividers::Rate;
 use entries::{Chip, Fill};
-use setups::{esp32, esp32c3};
+use old_setups as esp32;
+use setups::esp32c3;
 
 /// A unit's set-up with its chip. Both units of the old chip are set up alike.
 #[derive(Clone, Copy, PartialEq, Eq)]

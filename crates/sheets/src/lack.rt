@@ -4,7 +4,8 @@ ghost use Rattle.sheets.specs.Lacks.{esp32_channels, esp32_format, esp32_width, 
 
 use crate::sheet::Sheet;
 use entries::{Chip, Fill, Key, Row};
-use setups::{esp32, esp32c3};
+use old_setups as esp32;
+use setups::esp32c3;
 
 /// What is wrong with a key of a sheet.
 #[derive(Clone, Copy, PartialEq, Eq)]
