@@ -2,6 +2,7 @@
 use dividers::{I2sClockDividers, I2sMclkDividers};
 use plans::{Ask, Chip, Fault, Lack, MOST_FRAME, NoPlan, Plan, Unread, chips};
 use std::fmt;
+use words::Shown;
 
 // What is asked, and a line for each chip.
 #[derive(Clone, Copy)]
@@ -120,9 +121,6 @@ impl fmt::Display for LackText<'_> {
     }
 }
 
-// How many bytes of a line that cannot be read are shown.
-const SHOWN: usize = 40;
-
 // A line that cannot be read: its number, why, and how it begins.
 #[derive(Clone, Copy)]
 pub(crate) struct UnreadText<'a> {
@@ -138,20 +136,10 @@ impl fmt::Display for UnreadText<'_> {
             line,
             unread,
         } = *self;
-        write!(
+        writeln!(
             f,
-            "line {number} is not read: {unread}; RATE SLOTS BITS is expected, and this is \""
-        )?;
-        for byte in line.iter().take(SHOWN) {
-            match byte {
-                b' '..=b'~' => f.write_char(char::from(*byte))?,
-                _ => write!(f, "\\x{byte:02x}")?,
-            }
-        }
-        f.write_char('"')?;
-        if line.len() > SHOWN {
-            write!(f, " and more, in all {} bytes", line.len())?;
-        }
-        f.write_char('\n')
+            "line {number} is not read: {unread}; RATE SLOTS BITS is expected, and this is {}",
+            Shown(line)
+        )
     }
 }

@@ -2,7 +2,6 @@
 #![tactic(auto)]
 
 mod lines;
-mod shown;
 mod wrong;
 
 pub use wrong::WrongText;

@@ -1,10 +1,9 @@
-//! What is wrong with a sheet that asks no set-up.
+//! The lines and keys of a sheet that asks no set-up.
 use crate::lines::{is_named, line_of};
-use crate::shown::Shown;
 use entries::{Key, Unread, keys};
 use sheets::{BadLine, Lack, Sheet, read_sheet};
 use std::fmt;
-use words::{Lines, first_word};
+use words::{Lines, Shown};
 
 /// Of the lines of a text, each bad one, then what the chip has not, then the keys that are missing.
 #[derive(Clone, Copy)]
@@ -24,13 +23,8 @@ fn write_bad_lines<W: fmt::Write>(f: &mut fmt::Formatter<W>, text: &[u8]) -> fmt
     let mut sheet = Sheet::new();
     for (number, line) in (1..u64::MAX).zip(Lines::new(text)) {
         if let Err(bad) = sheet.take_line(line) {
-            let bad_line = BadLineText {
-                text,
-                number,
-                line,
-                bad,
-            };
-            writeln!(f, "{bad_line}")?;
+            let wrong = bad_line(bad);
+            write_line(f, number, line, wrong)?;
         }
     }
     Ok(())
@@ -46,14 +40,7 @@ fn write_lacks<W: fmt::Write>(
         if let Some((number, line)) = line_of(text, key)
             && let Some(lack) = sheet.lack(key)
         {
-            let lack = LackText {
-                sheet,
-                number,
-                line,
-                key,
-                lack,
-            };
-            writeln!(f, "{lack}")?;
+            write_line(f, number, line, lacking(key, lack))?;
         }
     }
     Ok(())
@@ -67,100 +54,76 @@ fn write_missing<W: fmt::Write>(
 ) -> fmt::Result {
     for key in keys() {
         if sheet.lack(key) == Some(Lack::Missing) && !is_named(text, key) {
-            writeln!(f, "no line has {key}: {} is expected", key.expected())?;
+            writeln!(f, "no line has {key}, {} is expected", key.expected())?;
         }
     }
     Ok(())
 }
 
-// A line that counts for nothing: its number, its key and value, and what is expected.
+// What is wrong with a line, and what is expected.
 #[derive(Clone, Copy)]
-struct BadLineText<'a> {
-    text: &'a [u8],
-    number: u64,
-    line: &'a [u8],
-    bad: BadLine,
+struct Wrong {
+    what: &'static str,
+    expected: &'static str,
 }
 
-impl fmt::Display for BadLineText<'_> {
-    fn fmt<W: fmt::Write>(&self, f: &mut fmt::Formatter<W>) -> fmt::Result {
-        let (name, rest) = first_word(self.line);
-        let (value, _) = first_word(rest);
-        let number = self.number;
-        write!(f, "line {number}: ")?;
-        match self.bad {
-            BadLine::Unread(Unread::NoKey) => {
-                write!(f, "{} is no key, one of", Shown(name))?;
-                for key in keys() {
-                    write!(f, " {key}")?;
-                }
-                f.write_str(" is expected")
-            }
-            BadLine::Unread(Unread::NoValue(key)) => {
-                write!(f, "{key} has no value, {} is expected", key.expected())
-            }
-            BadLine::Unread(Unread::ManyValues(key)) => {
-                write!(
-                    f,
-                    "{key} has more than one value, in {}, {} is expected",
-                    Shown(self.line),
-                    key.expected()
-                )
-            }
-            BadLine::Unread(Unread::NotAValue(key)) => {
-                write!(
-                    f,
-                    "{key} is {}, {} is expected",
-                    Shown(value),
-                    key.expected()
-                )
-            }
-            BadLine::Twice(key) => {
-                write!(f, "{key} is {} here", Shown(value))?;
-                if let Some((first, _)) = line_of(self.text, key) {
-                    write!(f, " and stands in line {first} already")?;
-                }
-                f.write_str(", one line for each key is expected")
-            }
-        }
+fn write_line<W: fmt::Write>(
+    f: &mut fmt::Formatter<W>,
+    number: u64,
+    line: &[u8],
+    wrong: Wrong,
+) -> fmt::Result {
+    let Wrong { what, expected } = wrong;
+    writeln!(
+        f,
+        "line {number}, {}: {what}, {expected} is expected",
+        Shown(line)
+    )
+}
+
+fn bad_line(bad: BadLine) -> Wrong {
+    match bad {
+        BadLine::Unread(Unread::NoKey) => Wrong {
+            what: "no key has this name",
+            expected: "chip, rate, slots, active, fill, format, width, polarity, shift, endianness or order",
+        },
+        BadLine::Unread(Unread::NoValue(key)) => Wrong {
+            what: "the key has no value",
+            expected: key.expected(),
+        },
+        BadLine::Unread(Unread::ManyValues(key)) => Wrong {
+            what: "the key has more than one value",
+            expected: key.expected(),
+        },
+        BadLine::Unread(Unread::NotAValue(key)) => Wrong {
+            what: "the key has no such value",
+            expected: key.expected(),
+        },
+        BadLine::Twice(_) => Wrong {
+            what: "a line before has the key",
+            expected: "one line for each key",
+        },
     }
 }
 
-// A line whose value is none of the chip's: its number, its key and value, and what the chip has.
-#[derive(Clone, Copy)]
-struct LackText<'a> {
-    sheet: &'a Sheet,
-    number: u64,
-    line: &'a [u8],
-    key: Key,
-    lack: Lack,
-}
-
-impl fmt::Display for LackText<'_> {
-    fn fmt<W: fmt::Write>(&self, f: &mut fmt::Formatter<W>) -> fmt::Result {
-        let LackText {
-            sheet,
-            number,
-            line,
-            key,
-            lack,
-        } = *self;
-        let (_, rest) = first_word(line);
-        let (value, _) = first_word(rest);
-        write!(f, "line {number}: {key} is {}, ", Shown(value))?;
-        match lack {
-            Lack::Foreign => f.write_str("the ESP32 has no such key, no line for it is expected"),
-            Lack::NoSetUp => write!(
-                f,
-                "the ESP32 has no such set-up, {} is expected",
-                esp32_has(key)
-            ),
-            Lack::Digits => match sheet.slots {
-                Some(slots) => write!(f, "the slots are {slots}, a digit for each is expected"),
-                None => f.write_str("a digit for each slot is expected"),
-            },
-            Lack::Missing => write!(f, "{} is expected", key.expected()),
-        }
+fn lacking(key: Key, lack: Lack) -> Wrong {
+    match lack {
+        Lack::Foreign => Wrong {
+            what: "the ESP32 has no such key",
+            expected: "no line for it",
+        },
+        Lack::NoSetUp => Wrong {
+            what: "the ESP32 has no such set-up",
+            expected: esp32_has(key),
+        },
+        Lack::Digits => Wrong {
+            what: "the row has not as many digits as there are slots",
+            expected: "a digit for each slot",
+        },
+        Lack::Missing => Wrong {
+            what: "the key is missing",
+            expected: key.expected(),
+        },
     }
 }
 

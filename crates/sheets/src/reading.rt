@@ -15,7 +15,7 @@ pub enum BadLine {
 }
 
 /// What a sheet says.
-#[derive(Clone, Copy, PartialEq, Eq)]
+#[derive(Clone, Copy)]
 pub struct Reading {
     pub sheet: Sheet,
     /// Whether no line is bad.

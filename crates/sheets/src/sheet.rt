@@ -8,7 +8,7 @@ use setups::esp32c3::{DataFormat, WsWidth};
 use setups::{BitOrder, Endianness, Polarity};
 
 /// What a sheet has said of each key, if anything.
-#[derive(Clone, Copy, PartialEq, Eq)]
+#[derive(Clone, Copy)]
 pub struct Sheet {
     pub chip: Option<Chip>,
     pub rate: Option<u32>,

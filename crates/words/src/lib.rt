@@ -4,7 +4,9 @@
 mod lines;
 mod numbers;
 mod parts;
+mod shown;
 
 pub use lines::{Lines, first_line};
 pub use numbers::{NoNumber, number};
 pub use parts::first_word;
+pub use shown::Shown;

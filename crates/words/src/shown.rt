@@ -1,12 +1,12 @@
-//! Bytes of a sheet as a text can show them.
+//! Bytes as a text can show them.
 use std::fmt;
 
 // How many bytes are shown.
 const SHOWN: usize = 40;
 
-// Bytes between quotes; those that do not print as `\xNN`.
+/// Bytes between quotes, at most 40 of them; those that do not print as `\xNN`.
 #[derive(Clone, Copy)]
-pub(crate) struct Shown<'a>(pub(crate) &'a [u8]);
+pub struct Shown<'a>(pub &'a [u8]);
 
 impl fmt::Display for Shown<'_> {
     fn fmt<W: fmt::Write>(&self, f: &mut fmt::Formatter<W>) -> fmt::Result {
