@@ -1,10 +1,13 @@
-//! Tests on examples: of the dividers, the plans and the answers here, of the blocks in `block_tests`.
+//! Tests on examples: of the dividers, the plans and the answers here, of the blocks in `block_tests`, of sheets in
+//! `setup_tests`.
 #![tactic(auto)]
 
 #[cfg(test)]
 mod block_tests;
 #[cfg(test)]
 mod handed;
+#[cfg(test)]
+mod setup_tests;
 
 #[cfg(test)]
 mod tests {

@@ -54,7 +54,7 @@ fn write_missing<W: fmt::Write>(
 ) -> fmt::Result {
     for key in keys() {
         if sheet.lack(key) == Some(Lack::Missing) && !is_named(text, key) {
-            writeln!(f, "no line has {key}, {} is expected", key.expected())?;
+            writeln!(f, "no line has {key}; {} is expected", key.expected())?;
         }
     }
     Ok(())
@@ -76,7 +76,7 @@ fn write_line<W: fmt::Write>(
     let Wrong { what, expected } = wrong;
     writeln!(
         f,
-        "line {number}, {}: {what}, {expected} is expected",
+        "line {number}, {}: {what}; {expected} is expected",
         Shown(line)
     )
 }

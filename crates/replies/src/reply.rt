@@ -32,7 +32,7 @@ pub struct Reaches {
 
 impl Reaches {
     /// What the two chips take.
-    pub const fn of_chips() -> Reaches
+    pub fn of_chips() -> Reaches
         ensures esp32 { result.esp32.max ≡ 63 }
         ensures esp32_range { result.esp32.range ≡ eight_bit_range }
         ensures esp32c3 { result.esp32c3.max ≡ 511 }
