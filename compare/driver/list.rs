@@ -1,4 +1,5 @@
-//! Writes the fixed list: answers of the published Rust, one to a line. The port is not asked.
+//! Writes the fixed lists: answers of the published Rust, one to a line. The port is not asked.
+//! usage: list dividers|set-ups|answers
 
 #[allow(dead_code)]
 mod exact;
@@ -6,8 +7,10 @@ mod exact;
 mod inputs;
 #[allow(dead_code)]
 mod published;
+#[allow(dead_code)]
+mod setups;
 
-use std::collections::HashSet;
+use std::{collections::HashSet, env};
 
 use exact::{CUT, Search, WHOLE};
 use inputs::{Random, SEED, WIDTHS, input, known_cut};
@@ -15,6 +18,28 @@ use published::{Chip, Input};
 
 fn main() {
     published::hush();
+    match env::args().nth(1).as_deref() {
+        Some("dividers") => print_dividers(),
+        Some("set-ups") => print_set_ups(),
+        Some("answers") => print_answers(),
+        _ => panic!("usage: list dividers|set-ups|answers"),
+    }
+}
+
+fn print_set_ups() {
+    println!("# seed of the random inputs: {SEED:#x}");
+    for (set_up, _) in setups::list::lines() {
+        println!("{set_up}");
+    }
+}
+
+fn print_answers() {
+    for (_, answer) in setups::list::lines() {
+        println!("{answer}");
+    }
+}
+
+fn print_dividers() {
     println!("# seed of the random inputs: {SEED:#x}");
     let mut seen = HashSet::new();
     for asked in audio().into_iter().chain(cut()).chain(bounds()).chain(random(160)) {

@@ -65,7 +65,8 @@ pub fn hush() {
     }));
 }
 
-fn caught(ask: impl FnOnce() -> [u32; 4] + panic::UnwindSafe) -> Option<[u32; 4]> {
+/// What a question gives; nothing if it panics.
+pub fn caught<T>(ask: impl FnOnce() -> T + panic::UnwindSafe) -> Option<T> {
     ASKING.set(true);
     let answer = panic::catch_unwind(ask).ok();
     ASKING.set(false);

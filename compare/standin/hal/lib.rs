@@ -27,6 +27,42 @@ macro_rules! window {
 
         /// The largest denominator that the search tries.
         pub const MAX: u32 = I2S_LL_MCLK_DIVIDER_MAX as u32;
+
+        /// The first peripheral, with the recorder behind its registers.
+        fn first() -> Self {
+            AnyI2s(AnyI2sInner::I2s0(I2S0(core::marker::PhantomData)))
+        }
+
+        #[inline(never)]
+        pub fn set_up_both(config: &Config) -> Result<(), ConfigError> {
+            Self::first().configure(config)
+        }
+
+        #[cfg(esp32c3)]
+        #[inline(never)]
+        pub fn set_up_tx(config: &UnitConfig) -> Result<(), ConfigError> {
+            Self::first().configure_tx(config)
+        }
+
+        #[cfg(esp32c3)]
+        #[inline(never)]
+        pub fn set_up_rx(config: &UnitConfig) -> Result<(), ConfigError> {
+            Self::first().configure_rx(config)
+        }
+
+        /// `Channels::new`; inlined into another crate it would have that crate's overflow checks.
+        #[cfg(esp32c3)]
+        #[inline(never)]
+        pub fn made_channels(count: u8, mask: u16, fill: Option<u32>) -> Channels {
+            Channels::new(count, mask, fill)
+        }
+
+        /// Channels with the whole mask, past the shift of `Channels::new`.
+        #[cfg(esp32c3)]
+        #[inline(never)]
+        pub fn whole_channels(count: u8, mask: u16, fill: Option<u32>) -> Channels {
+            Channels { count, mask, fill }
+        }
     };
 }
 

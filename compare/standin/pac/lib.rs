@@ -1,10 +1,17 @@
 //! Stand-in for the crates `esp32` and `esp32c3`, which give the registers of a chip by name.
 //!
-//! Every write of the driver goes through `W::put`. Nothing is kept there: the dividers are asked
-//! for directly, and no register is reached. A block that keeps the writes would keep them there.
+//! No register is reached and no number kept. Reads, puts and writes are told to the recorder, by
+//! name and in their order; every put of the driver goes through `W::put`. A read gives 0.
 #![no_std]
 
 use core::marker::PhantomData;
+
+use recorder::{Event, note};
+
+/// A register's name.
+pub trait Named {
+    const NAME: &'static str;
+}
 
 /// One register; `S` stands for its name and decides which fields it has.
 pub struct Register<S>(PhantomData<S>);
@@ -15,23 +22,26 @@ pub struct R<S>(PhantomData<S>);
 /// What is about to be written to the register.
 pub struct W<S>(PhantomData<S>);
 
-/// A field of the value about to be written, holding a `T`.
-pub struct FieldW<'a, S, T>(&'a mut W<S>, PhantomData<T>);
+/// A field of the value about to be written, holding a `T`; with its name.
+pub struct FieldW<'a, S, T>(&'a mut W<S>, &'static str, PhantomData<T>);
 
 /// A field of the value read, holding a `T`.
 pub struct FieldR<T>(T);
 
-impl<S> Register<S> {
+impl<S: Named> Register<S> {
     pub fn read(&self) -> R<S> {
+        note(Event::Read { register: S::NAME });
         R(PhantomData)
     }
 
     pub fn write(&self, change: impl FnOnce(&mut W<S>) -> &mut W<S>) {
         change(&mut W(PhantomData));
+        note(Event::Written { register: S::NAME });
     }
 
     pub fn modify(&self, change: impl for<'w> FnOnce(&R<S>, &'w mut W<S>) -> &'w mut W<S>) {
-        change(&R(PhantomData), &mut W(PhantomData));
+        let before = self.read();
+        self.write(|next| change(&before, next));
     }
 }
 
@@ -41,25 +51,26 @@ impl<S> R<S> {
     }
 }
 
-impl<S> W<S> {
+impl<S: Named> W<S> {
     pub fn bits(&mut self, value: u32) -> &mut Self {
-        self.put(value)
+        self.put("bits", value)
     }
 
-    fn put(&mut self, _value: u32) -> &mut Self {
+    fn put(&mut self, field: &'static str, value: u32) -> &mut Self {
+        note(Event::Put { register: S::NAME, field, value });
         self
     }
 }
 
-impl<'a, S, T: Into<u32>> FieldW<'a, S, T> {
+impl<'a, S: Named, T: Into<u32>> FieldW<'a, S, T> {
     pub fn bits(self, value: T) -> &'a mut W<S> {
-        self.0.put(value.into())
+        self.0.put(self.1, value.into())
     }
 }
 
-impl<'a, S> FieldW<'a, S, bool> {
+impl<'a, S: Named> FieldW<'a, S, bool> {
     pub fn bit(self, value: bool) -> &'a mut W<S> {
-        self.0.put(value.into())
+        self.0.put(self.1, value.into())
     }
 
     pub fn set_bit(self) -> &'a mut W<S> {
@@ -110,9 +121,13 @@ macro_rules! block {
             $(pub mod $register {
                 pub struct Spec;
 
+                impl crate::Named for Spec {
+                    const NAME: &'static str = stringify!($register);
+                }
+
                 impl crate::W<Spec> {
                     $($(pub fn $field(&mut self) -> crate::FieldW<'_, Spec, $kind> {
-                        crate::FieldW(self, core::marker::PhantomData)
+                        crate::FieldW(self, stringify!($field), core::marker::PhantomData)
                     })*)*
                 }
 
