@@ -3,7 +3,7 @@
 --     clock_fault rate slots bits max range  the integer part, or the pair
 --     esp32c3_fault u max range e            what is out of range in a set-up of the new chip that is refused by e
 --     esp32_fault c max range e              the same of the old chip
-use Rattle.std.specs.Prelude.{ℕ, min, max, Bool, true, false, cond, not, ◌==◌, Ok, Err, Result, count_ones}
+use Rattle.std.specs.Prelude.{ℕ, min, max, cond, ◌==◌, Ok, Err, Result, count_ones}
 use Rattle.dividers.specs.declared.ConfigError.{ConfigError}
 use Rattle.dividers.specs.declared.ConfigError.TheVariants.{ChannelsOutOfRange, WsWidthOutOfRange, FrameTooLong, RateOutOfRange, ClockOutOfReach}
 use Rattle.dividers.specs.declared.DividerRange.{DividerRange}
