@@ -1,7 +1,8 @@
 //! Set-ups accepted or refused.
-ghost use Rattle.std.specs.Prelude.{MatchResult};
+ghost use Rattle.std.specs.Prelude.{IfErr, MatchResult};
 ghost use Rattle.old_setups.specs.Passing as OldPassing;
 ghost use Rattle.setups.specs.Passing.{PassedAs};
+ghost use Rattle.verdicts.specs.Blame.{IsWrongNew, IsWrongOld};
 ghost use Rattle.verdicts.specs.Verdicts.{RefusedNew, RefusedOld};
 
 use crate::fault::{Fault, esp32_fault, esp32c3_fault};
@@ -21,7 +22,8 @@ pub fn accept_esp32c3(
     config: &esp32c3::UnitConfig,
     reach: esp32c3::ClockReach,
 ) -> Result<esp32c3::Setup, Refused>
-    ensures { MatchResult result (PassedAs reach.max reach.range config.now) (RefusedNew reach.max reach.range config.now) }
+    ensures checked { MatchResult result (PassedAs reach.max reach.range config.now) (RefusedNew reach.max reach.range config.now) }
+    ensures blamed { IfErr result (λ r. IsWrongNew config.now reach.max reach.range r.fault) }
 {
     match config.check(reach) {
         Ok(setup) => Ok(setup),
@@ -37,7 +39,8 @@ pub fn accept_esp32(
     config: &esp32::Config,
     reach: esp32::ClockReach,
 ) -> Result<esp32::Setup, Refused>
-    ensures { MatchResult result (OldPassing.PassedAs reach.max reach.range config.now) (RefusedOld reach.max reach.range config.now) }
+    ensures checked { MatchResult result (OldPassing.PassedAs reach.max reach.range config.now) (RefusedOld reach.max reach.range config.now) }
+    ensures blamed { IfErr result (λ r. IsWrongOld config.now reach.max reach.range r.fault) }
 {
     match config.check(reach) {
         Ok(setup) => Ok(setup),
