@@ -26,7 +26,7 @@ pub fn accept_esp32c3(
     ensures blamed { IfErr result (λ r. IsWrongNew config.now reach.max reach.range r.fault) }
 {
     match config.check(reach) {
-        Ok(setup) => Ok(setup),
+        Ok(passed) => Ok(passed),
         Err(error) => {
             let fault = esp32c3_fault(config, reach, error);
             Err(Refused { error, fault })
