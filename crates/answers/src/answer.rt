@@ -4,7 +4,7 @@ ghost use Rattle.answers.specs.Summary.{closing_text, lines_word, summary_text};
 ghost use Rattle.plans.specs.Lines.{reading_of};
 ghost use Rattle.plans.specs.Outcomes.{outcome_of};
 
-use crate::words::{PlansText, UnreadText};
+use crate::texts::{PlansText, UnreadText};
 use plans::{Outcome, Tally, read_line};
 use std::alloc::{AllocError, Global};
 

@@ -2,6 +2,6 @@
 #![tactic(auto)]
 
 mod answer;
-mod words;
+mod texts;
 
 pub use answer::{Answer, answer_line, summary};

@@ -1,4 +1,5 @@
-//! Tests on examples: of the dividers, the plans and the answers here, of the blocks in `block_tests`, of set-ups in `setup_tests`.
+//! Tests on examples: of the dividers, the plans and the answers here, of the blocks in `block_tests`, of set-ups in `setup_tests`,
+//! of sheets in `sheet_tests`.
 #![tactic(auto)]
 
 #[cfg(test)]
@@ -7,6 +8,8 @@ mod block_tests;
 mod handed;
 #[cfg(test)]
 mod setup_tests;
+#[cfg(test)]
+mod sheet_tests;
 
 #[cfg(test)]
 mod tests {

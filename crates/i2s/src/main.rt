@@ -4,6 +4,7 @@
 use answers::{answer_line, summary};
 use anyhow::anyhow;
 use plans::{Lines, Tally};
+use replies::{Outcome, Reaches, reply_to};
 use std::io::{BufWriter, Read, Write};
 use std::{env, fs, io};
 
@@ -11,6 +12,8 @@ const HELP: &str =
     "i2s clocks [FILE]   plan the clocks of each line RATE SLOTS BITS of FILE, or of standard input where there is none or a -:
                     the rate in hertz, the slots of a frame and the data bits of a slot;
                     blank lines and lines that begin with # pass
+i2s setup [FILE]    check one unit's set-up, a line KEY VALUE for each key of FILE, or of standard input where there is none or a -,
+                    and draw one frame of it; docs/RULES.md says which keys and values there are
 i2s help            say this
 ";
 
@@ -49,6 +52,23 @@ fn clocks(rt: &HostRuntime, path: &str) -> anyhow::Result<()> {
     }
 }
 
+// `setup`: what a sheet asks, or on standard error what is wrong with it.
+fn setup(rt: &HostRuntime, path: &str) -> anyhow::Result<()> {
+    let sheet = match read_input(rt, path) {
+        Ok(bytes) => bytes,
+        Err(e) => {
+            eprintln!(rt; "i2s setup: '{path}' cannot be read: {e}")?;
+            return Err(anyhow!("the input cannot be read"));
+        }
+    };
+    let reply = reply_to(rt.alloc(), sheet.as_slice(), Reaches::of_chips())?;
+    if reply.outcome == Outcome::Unread {
+        eprint!(rt; "{}", reply.text)?;
+        return Err(anyhow!("the sheet is no whole set-up"));
+    }
+    Ok(print!(rt; "{}", reply.text)?)
+}
+
 fn main(rt: HostRuntime) -> anyhow::Result<()> {
     let mut args = env::args(&rt)?;
     let _ = args.next();
@@ -58,9 +78,10 @@ fn main(rt: HostRuntime) -> anyhow::Result<()> {
     let path = file.as_ref().map_or("-", |path| path.as_str());
     match command.as_ref().map(|word| word.as_str()) {
         Some("clocks") if !more => clocks(&rt, path),
+        Some("setup") if !more => setup(&rt, path),
         Some("help") => Ok(print!(rt; "{HELP}")?),
-        Some("clocks") => {
-            eprint!(rt; "i2s clocks: one file at most\n{HELP}")?;
+        Some(task @ ("clocks" | "setup")) => {
+            eprint!(rt; "i2s {task}: one file at most\n{HELP}")?;
             Err(anyhow!("usage"))
         }
         Some(word) => {

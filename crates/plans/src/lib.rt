@@ -8,5 +8,6 @@ mod targets;
 
 pub use counting::{Outcome, Tally};
 pub use planning::{Fault, NoPlan, Plan};
-pub use read::{Ask, Lines, Number, Unread, first_line, read_line};
+pub use read::{Ask, Number, Unread, read_line};
 pub use targets::{Chip, ChipName, Lack, MOST_FRAME, chips};
+pub use words::{Lines, first_line};

@@ -1,11 +1,10 @@
 //! Lines of text: which of them ask for a plan, and what they ask.
-ghost use Rattle.std.specs.Prelude.{◌≡◌, ◌<◌, ◌^◌, IsTrue, Some, length, not, position};
-ghost use Rattle.std.specs.Option.{SomeIff};
-ghost use Rattle.std.specs.Iterator.{at_most};
-ghost use Rattle.plans.specs.Lines.{ReadsWritten, TakesLine, ask_of, is_blank, is_digits, is_line_feed, line_in, number_of, past_line, past_word, reading_of, text_left, value_of, word_in};
+ghost use Rattle.std.specs.Prelude.{◌≡◌, Some};
+ghost use Rattle.plans.specs.Lines.{ReadsWritten, ask_of, number_of, reading_of};
 ghost use Rattle.plans.specs.Words.{number_text, unread_text};
 
-use std::{fmt, str};
+use std::fmt;
+use words::{NoNumber, first_word, number};
 
 /// A rate in hertz, a number of slots and a number of data bits.
 #[derive(Clone, Copy, PartialEq, Eq)]
@@ -61,118 +60,14 @@ impl fmt::Display for Unread {
     }
 }
 
-fn is_blank(byte: u8) -> bool
-    ensures { result ≡ is_blank byte }
-{
-    matches!(byte, b' ' | b'\t' | b'\r')
-}
-
-fn is_digits(word: &[u8]) -> bool
-    ensures { result ≡ is_digits word.now }
-{
-    word.iter().all(u8::is_ascii_digit)
-}
-
-// What a word of digits stands for, if 32 bits hold it.
-fn value(digits: &[u8]) -> Option<u32>
-    requires some { 0 < length digits.now }
-    requires digits { IsTrue (is_digits digits.now) }
-    ensures { SomeIff result (value_of digits.now < 2 ^ 32) (value_of digits.now) }
-{
-    str::from_utf8(digits).unwrap().parse().ok()
-}
-
 // A word as a number of at most `most`; `what` is what it stands for.
 fn read_number(word: &[u8], what: Number, most: u32) -> Result<u32, Unread>
     ensures { result ≡ number_of word.now what most }
 {
-    if word.is_empty() || !is_digits(word) {
-        return Err(Unread::NotANumber(what));
-    }
-    value(word)
-        .filter(|n| *n <= most)
-        .ok_or(Unread::TooLarge(what, most))
-}
-
-// Each search is a function, so that what it finds is known by a contract; written where it is used, goals stay open.
-
-// Where the first word of a text begins.
-fn word_start(text: &[u8]) -> Option<usize>
-    ensures { result ≡ position (λ b. not (is_blank b)) text.now }
-{
-    text.iter().position(|b| !is_blank(*b))
-}
-
-// Where the word at the head of a text ends, if anything follows it.
-fn word_end(text: &[u8]) -> Option<usize>
-    ensures { result ≡ position is_blank text.now }
-{
-    text.iter().position(|b| is_blank(*b))
-}
-
-// Where the first line of a text ends, if it has an end.
-fn line_end(text: &[u8]) -> Option<usize>
-    ensures { result ≡ position is_line_feed text.now }
-{
-    text.iter().position(|b| *b == b'\n')
-}
-
-// The first word of a text, empty where there is none, and what follows it.
-fn first_word(text: &[u8]) -> (&[u8], &[u8])
-    ensures word { result.0.now ≡ word_in text.now }
-    ensures rest { result.1.now ≡ past_word text.now }
-{
-    let Some(start) = word_start(text) else {
-        return (&[], &[]);
-    };
-    let text = &text[start..];
-    match word_end(text) {
-        Some(end) => text.split_at(end),
-        None => (text, &[]),
-    }
-}
-
-/// The first line of a text without its end, and what follows that.
-pub fn first_line(text: &[u8]) -> (&[u8], &[u8])
-    ensures line { result.0.now ≡ line_in text.now }
-    ensures rest { result.1.now ≡ past_line text.now }
-{
-    match line_end(text) {
-        Some(end) => (&text[..end], &text[end + 1..]),
-        None => (text, &[]),
-    }
-}
-
-/// The lines of a text, in order, each without its end.
-#[derive(Drop)]
-pub struct Lines<'a> {
-    text: &'a [u8],
-}
-
-impl<'a> Lines<'a> {
-    /// All lines of the text.
-    pub fn new(text: &'a [u8]) -> Lines<'a>
-        ensures { text_left result ≡ text.now }
-    {
-        Lines { text }
-    }
-}
-
-impl<'a> Iterator for Lines<'a> {
-    type Item = &'a [u8];
-
-    ghost next_gives = { λ s line t. TakesLine (text_left s) line (text_left t) };
-
-    ghost remaining = { λ s. at_most (length (text_left s)) };
-
-    fn next(&mut self) -> Option<&'a [u8]> {
-        if self.text.is_empty() {
-            return None;
-        }
-        let (line, rest) = first_line(self.text);
-        self.text = rest;
-        Some(line)
-    }
+    number(word, most).map_err(|no_number| match no_number {
+        NoNumber::NotDigits => Unread::NotANumber(what),
+        NoNumber::TooLarge => Unread::TooLarge(what, most),
+    })
 }
 
 /// What a line asks, by its words; nothing where it is blank, or a remark after a `#`.

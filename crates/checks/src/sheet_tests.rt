@@ -1,0 +1,283 @@
+//! Tests on examples of sheets: what comes of them, and the whole text of each reply.
+use dividers::ConfigError;
+use replies::{Outcome, Reaches, reply_to};
+use std::test::Fail;
+
+// A sheet, what comes of it, and the text.
+const SHEETS: [(&str, Outcome, &str); 15] = [
+    // The new chip, slots that are not active, a fill.
+    (
+        "chip ESP32-C3\n\
+         rate 8000\n\
+         slots 4\n\
+         active 1011\n\
+         fill 0\n\
+         format 16/16\n\
+         width slot\n\
+         polarity high\n\
+         shift no\n\
+         endianness little\n\
+         order msb\n",
+        Outcome::Accepted,
+        "accepted: integer part 78, bit divider 4, pair 8 1, split 7 0 1 0\n\
+         slot 1               2               3               4\n\
+         data ################................################################\n\
+         ws   ----------------________________________________________________\n",
+    ),
+    // Sixteen slots, whose numbers have two digits.
+    (
+        "chip ESP32-C3\n\
+         rate 44100\n\
+         slots 16\n\
+         active 1000000000000001\n\
+         fill repeat\n\
+         format 8/8\n\
+         width 3\n\
+         polarity low\n\
+         shift yes\n\
+         endianness little\n\
+         order msb\n",
+        Outcome::Accepted,
+        "accepted: integer part 14, bit divider 2, pair 441 76, split 4 61 76 0\n\
+         slot 1       2       3       4       5       6       7       8       9       10      11      12      13      14      15      16\n\
+         data ########................................................................................................................########\n\
+         ws   ___-----------------------------------------------------------------------------------------------------------------------------\n\
+         shift: data lags word select by one bit, which is not drawn\n",
+    ),
+    // The old chip.
+    (
+        "chip ESP32\n\
+         rate 44100\n\
+         slots 2\n\
+         active 10\n\
+         fill 0\n\
+         format 32/32\n\
+         width bit\n\
+         polarity high\n\
+         shift no\n",
+        Outcome::Accepted,
+        "accepted: integer part 14, bit divider 4, pair 29 5\n\
+         slot 1                               2\n\
+         data ################################................................\n\
+         ws   -_______________________________________________________________\n\
+         polarity: this chip stores none, and word select is drawn as written\n",
+    ),
+    // No slot is active.
+    (
+        "chip ESP32-C3\n\
+         rate 44100\n\
+         slots 2\n\
+         active 00\n\
+         fill repeat\n\
+         format 16/16\n\
+         width half\n\
+         polarity low\n\
+         shift yes\n\
+         endianness little\n\
+         order msb\n",
+        Outcome::Refused(ConfigError::ChannelsOutOfRange),
+        "refused by 1, ChannelsOutOfRange: active slots 0, at least 1 is needed\n",
+    ),
+    // Too many slots, whatever the row.
+    (
+        "chip ESP32-C3\n\
+         rate 44100\n\
+         slots 17\n\
+         active 11\n\
+         fill repeat\n\
+         format 16/16\n\
+         width half\n\
+         polarity low\n\
+         shift yes\n\
+         endianness little\n\
+         order msb\n",
+        Outcome::Refused(ConfigError::ChannelsOutOfRange),
+        "refused by 1, ChannelsOutOfRange: slots 17, at most 16 is possible\n",
+    ),
+    // No width.
+    (
+        "chip ESP32-C3\n\
+         rate 44100\n\
+         slots 2\n\
+         active 11\n\
+         fill repeat\n\
+         format 16/16\n\
+         width 0\n\
+         polarity low\n\
+         shift yes\n\
+         endianness little\n\
+         order msb\n",
+        Outcome::Refused(ConfigError::WsWidthOutOfRange),
+        "refused by 2, WsWidthOutOfRange: word select is active for 0 bits, from 1 to 32 is possible\n",
+    ),
+    // A width above the frame.
+    (
+        "chip ESP32-C3\n\
+         rate 44100\n\
+         slots 2\n\
+         active 11\n\
+         fill repeat\n\
+         format 16/16\n\
+         width 33\n\
+         polarity low\n\
+         shift yes\n\
+         endianness little\n\
+         order msb\n",
+        Outcome::Refused(ConfigError::WsWidthOutOfRange),
+        "refused by 2, WsWidthOutOfRange: word select is active for 33 bits, from 1 to 32 is possible\n",
+    ),
+    // A frame of 256 bits.
+    (
+        "chip ESP32-C3\n\
+         rate 44100\n\
+         slots 16\n\
+         active 1111111111111111\n\
+         fill repeat\n\
+         format 16/16\n\
+         width bit\n\
+         polarity low\n\
+         shift yes\n\
+         endianness little\n\
+         order msb\n",
+        Outcome::Refused(ConfigError::FrameTooLong),
+        "refused by 3, FrameTooLong: frame 256 bits, at most 128 is possible\n",
+    ),
+    // No rate.
+    (
+        "chip ESP32-C3\n\
+         rate 0\n\
+         slots 2\n\
+         active 11\n\
+         fill repeat\n\
+         format 16/16\n\
+         width half\n\
+         polarity low\n\
+         shift yes\n\
+         endianness little\n\
+         order msb\n",
+        Outcome::Refused(ConfigError::RateOutOfRange),
+        "refused by 4, RateOutOfRange: rate 0 Hz, at least 1 is needed\n",
+    ),
+    // A clock past 32 bits.
+    (
+        "chip ESP32-C3\n\
+         rate 16777216\n\
+         slots 2\n\
+         active 11\n\
+         fill repeat\n\
+         format 16/16\n\
+         width half\n\
+         polarity low\n\
+         shift yes\n\
+         endianness little\n\
+         order msb\n",
+        Outcome::Refused(ConfigError::RateOutOfRange),
+        "refused by 4, RateOutOfRange: a clock of 4294967296 Hz, at most 4294967295 is possible\n",
+    ),
+    // An integer part of 256.
+    (
+        "chip ESP32-C3\n\
+         rate 2441\n\
+         slots 2\n\
+         active 11\n\
+         fill repeat\n\
+         format 16/16\n\
+         width half\n\
+         polarity low\n\
+         shift yes\n\
+         endianness little\n\
+         order msb\n",
+        Outcome::Refused(ConfigError::ClockOutOfReach),
+        "refused by 5, ClockOutOfReach: integer part 256, from 1 to 255 is possible\n",
+    ),
+    // The same on the old chip.
+    (
+        "chip ESP32\n\
+         rate 629977\n\
+         slots 2\n\
+         active 10\n\
+         fill 0\n\
+         format 16/16\n\
+         width bit\n\
+         polarity high\n\
+         shift no\n",
+        Outcome::Refused(ConfigError::ClockOutOfReach),
+        "refused by 5, ClockOutOfReach: integer part 0, from 1 to 255 is possible\n",
+    ),
+    // Values that the old chip has not.
+    (
+        "chip ESP32\n\
+         rate 44100\n\
+         slots 4\n\
+         active 11\n\
+         fill 1\n\
+         format 8/8\n\
+         width slot\n\
+         polarity low\n\
+         shift yes\n\
+         endianness little\n\
+         order msb\n",
+        Outcome::Unread,
+        "line 3, \"slots 4\": the ESP32 has no such set-up; 2 is expected\n\
+         line 4, \"active 11\": the ESP32 has no such set-up; 11 with fill repeat (stereo), 10 with fill repeat (mono), 10 with fill 0 (left) or 01 with fill 0 (right) is expected\n\
+         line 6, \"format 8/8\": the ESP32 has no such set-up; 32/32 or 16/16 is expected\n\
+         line 7, \"width slot\": the ESP32 has no such set-up; half or bit is expected\n\
+         line 10, \"endianness little\": the ESP32 has no such key; no line for it is expected\n\
+         line 11, \"order msb\": the ESP32 has no such key; no line for it is expected\n",
+    ),
+    // A row of three digits for two slots.
+    (
+        "chip ESP32-C3\n\
+         rate 44100\n\
+         slots 2\n\
+         active 111\n\
+         fill repeat\n\
+         format 16/16\n\
+         width half\n\
+         polarity low\n\
+         shift yes\n\
+         endianness little\n\
+         order msb\n",
+        Outcome::Unread,
+        "line 4, \"active 111\": the row has not as many digits as there are slots; a digit for each slot is expected\n",
+    ),
+    // Bad lines of each kind, and keys that no line has.
+    (
+        "# a remark\n\
+         \n\
+         chip ESP32\n\
+         rat 5\n\
+         rate\n\
+         rate 44k1\n\
+         slots 2 2\n\
+         fill 1\n\
+         fill 2\n\
+         \twidth  65536\r\n\
+         shift maybe\n\
+         shift no\n\
+         active 10a\n\
+         order msb\n",
+        Outcome::Unread,
+        "line 4, \"rat 5\": no key has this name; chip, rate, slots, active, fill, format, width, polarity, shift, endianness or order is expected\n\
+         line 5, \"rate\": the key has no value; hertz, a number up to 4294967295 is expected\n\
+         line 6, \"rate 44k1\": the key has no such value; hertz, a number up to 4294967295 is expected\n\
+         line 7, \"slots 2 2\": the key has more than one value; a number up to 255 is expected\n\
+         line 9, \"fill 2\": a line before has the key; one line for each key is expected\n\
+         line 10, \"\\x09width  65536\\x0d\": the key has no such value; half, slot, bit, or a number of bits up to 65535 is expected\n\
+         line 11, \"shift maybe\": the key has no such value; yes or no is expected\n\
+         line 13, \"active 10a\": the key has no such value; a 0 or a 1 for each slot, the first slot first, 1 to 16 of them is expected\n\
+         line 14, \"order msb\": the ESP32 has no such key; no line for it is expected\n\
+         no line has format; 32/32, 32/24, 32/16, 32/8, 16/16, 16/8 or 8/8 is expected\n\
+         no line has polarity; high or low is expected\n",
+    ),
+];
+
+#[test]
+fn sheets_are_replied_to(rt: HostRuntime) -> Result<(), Fail> {
+    for (sheet, outcome, text) in SHEETS {
+        let reply = reply_to(rt.alloc(), sheet.as_bytes(), Reaches::of_chips())?;
+        assert!(rt; reply.outcome == outcome);
+        assert_eq!(rt; reply.text.as_str(), text);
+    }
+    Ok(())
+}

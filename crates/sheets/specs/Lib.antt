@@ -1,0 +1,4 @@
+pub mod Sheets
+pub mod Readings
+pub mod Lacks
+pub mod Asked

@@ -1,0 +1,3 @@
+pub mod Faults
+pub mod Verdicts
+pub mod Blame
