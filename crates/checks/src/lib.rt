@@ -5,6 +5,8 @@
 #[cfg(test)]
 mod block_tests;
 #[cfg(test)]
+mod chip_tests;
+#[cfg(test)]
 mod handed;
 #[cfg(test)]
 mod setup_tests;

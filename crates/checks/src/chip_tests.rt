@@ -1,0 +1,163 @@
+//! Tests of the chips over a paced block: allowances of every size, what starts and waits find, resets, events and dividers.
+use blocks::RegBlock;
+use chips::{I2sInterrupts, RegisterAccessPrivate};
+use dividers::Rate;
+use esp32::Esp32;
+use esp32c3::Esp32C3;
+use fields::{CommonField, Field, RxField, Side, TxField};
+use marks::Draw;
+use old_setups as old;
+use setups::esp32c3::{DataFormat, UnitConfig};
+use simulated::PacedBlock;
+use std::test::Fail;
+
+const DRAWS: Draw = Draw {
+    late: 2,
+    wait: 3,
+    hung: true,
+};
+
+const NO_WAIT: Draw = Draw {
+    late: 2,
+    wait: 0,
+    hung: false,
+};
+
+const ALL: I2sInterrupts = I2sInterrupts {
+    rx_hung: true,
+    tx_hung: true,
+    rx_done: true,
+    tx_done: true,
+};
+
+const NONE: I2sInterrupts = I2sInterrupts {
+    rx_hung: false,
+    tx_hung: false,
+    rx_done: false,
+    tx_done: false,
+};
+
+fn new_chip(draw: Draw) -> Esp32C3<PacedBlock> {
+    Esp32C3 {
+        block: PacedBlock::new(draw, draw),
+    }
+}
+
+fn old_chip(draw: Draw) -> Esp32<PacedBlock> {
+    Esp32 {
+        block: PacedBlock::new(draw, draw),
+    }
+}
+
+// The old chip's start polls until busy is found: after late polls, and never where there is no wait.
+#[test]
+fn an_old_start_is_found_busy(rt: HostRuntime) {
+    for (allowance, polls) in [
+        (0, None),
+        (1, None),
+        (2, None),
+        (3, Some(3)),
+        (65_535, Some(3)),
+    ] {
+        let mut chip = old_chip(DRAWS);
+        assert!(rt; chip.tx_start(allowance) == polls);
+        assert!(rt; chip.block.marks(Side::Transmit).busy);
+    }
+    let mut chip = old_chip(NO_WAIT);
+    assert!(rt; chip.tx_start(65_535) == None && !chip.block.marks(Side::Transmit).busy);
+}
+
+// The new chip's start makes no poll, and a wait ends at a poll that finds the half idle, also where it is late.
+#[test]
+fn a_new_wait_goes_by_its_polls(rt: HostRuntime) {
+    let mut chip = new_chip(DRAWS);
+    assert!(rt; chip.tx_start(0) == Some(0));
+    assert!(rt; chip.wait_for_tx_done(0) == None && chip.wait_for_tx_done(9) == Some(1));
+    assert!(rt; chip.block.marks(Side::Transmit).busy);
+    assert_eq!(rt; chip.get(Field::Tx(TxField::NewTxStart)), 0);
+}
+
+// Both chips find a receive after its waits, and clear the event of its end.
+#[test]
+fn a_receive_ends_after_its_waits(rt: HostRuntime) {
+    let mut new = new_chip(DRAWS);
+    new.rx_start(4_096);
+    assert_eq!(rt; new.get(Field::Rx(RxField::NewRxEofNum)), 4_095);
+    assert!(rt; new.wait_for_rx_done(3) == None && new.wait_for_rx_done(65_535) == Some(1));
+    assert!(rt; !new.events(Side::Receive).done && new.events(Side::Receive).eof);
+    let mut old = old_chip(DRAWS);
+    old.rx_start(4_096);
+    assert_eq!(rt; old.get(Field::Rx(RxField::OldRxEofNum)), 1_024);
+    assert!(rt; old.wait_for_rx_done(65_535) == Some(4));
+    assert!(rt; !old.events(Side::Receive).eof && old.events(Side::Receive).done);
+    old.rx_start(0);
+    new.rx_start(0);
+    assert!(rt;
+        old.get(Field::Rx(RxField::OldRxEofNum)) == 0
+            && new.get(Field::Rx(RxField::NewRxEofNum)) == 0
+    );
+}
+
+#[test]
+fn resets_leave_what_each_chip_says(rt: HostRuntime) {
+    let (mut new, mut old) = (new_chip(DRAWS), old_chip(DRAWS));
+    let _ = new.tx_start(0);
+    let _ = old.tx_start(0);
+    new.reset_tx();
+    old.reset_tx();
+    let (of_new, of_old) = (
+        new.block.marks(Side::Transmit),
+        old.block.marks(Side::Transmit),
+    );
+    assert!(rt; !of_new.busy && !of_new.stale && of_new.link);
+    assert!(rt; !of_old.busy && !of_old.stale && !of_old.link);
+}
+
+// A chip passes over the events that it lacks, and turning off undoes turning on.
+#[test]
+fn events_are_the_chips_own(rt: HostRuntime) {
+    let (mut new, mut old) = (new_chip(DRAWS), old_chip(DRAWS));
+    new.listen(ALL);
+    old.listen(ALL);
+    assert!(rt; new.enabled(Side::Receive).done && !old.enabled(Side::Receive).done);
+    assert!(rt; new.enabled(Side::Transmit).hung && old.enabled(Side::Transmit).hung);
+    new.rx_start(4);
+    let _ = new.wait_for_rx_done(0);
+    for _ in 0..4 {
+        let _ = new.poll_rx();
+    }
+    assert!(rt; new.interrupts().rx_hung && new.interrupts().rx_done && !new.interrupts().tx_done);
+    new.clear_interrupts(ALL);
+    new.unlisten(ALL);
+    assert!(rt; new.interrupts() == NONE && !new.enabled(Side::Receive).hung);
+}
+
+// A set-up that is taken over puts its divider, and the other unit's stays.
+#[test]
+fn dividers_are_those_of_the_set_ups(rt: HostRuntime) -> Result<(), Fail> {
+    let mut new = new_chip(DRAWS);
+    let format = DataFormat::Data16Channel16;
+    let slow = UnitConfig::new_tdm_philips().with_sample_rate(Rate::from_hz(8_000));
+    let fast = UnitConfig::new_tdm_philips().with_sample_rate(Rate::from_hz(48_000));
+    new.configure_tx(&Esp32C3::<PacedBlock>::check(&slow, format)?);
+    new.configure_rx(&Esp32C3::<PacedBlock>::check(&fast, format)?);
+    let parts = [
+        new.get(Field::Tx(TxField::NewTxClkmDivNum)),
+        new.get(Field::Rx(RxField::NewRxClkmDivNum)),
+        new.get(Field::Rx(RxField::NewRxClkmDivX)),
+    ];
+    assert!(rt; parts == [78, 13, 47]);
+    let both = old::Config::new_tdm_philips().with_sample_rate(Rate::from_hz(44_100));
+    let mut old = old_chip(DRAWS);
+    if let Ok(opening) = Esp32::<PacedBlock>::check_open(&both) {
+        old.configure(&opening);
+    }
+    let parts = [
+        old.get(Field::Common(CommonField::OldClkmDivNum)),
+        old.get(Field::Common(CommonField::OldClkmDivA)),
+        old.get(Field::Common(CommonField::OldClkmDivB)),
+        old.get(Field::Rx(RxField::OldRxBckDivNum)),
+    ];
+    assert!(rt; parts == [14, 29, 5, 8]);
+    Ok(())
+}
