@@ -1,0 +1,42 @@
+//! The fixed list of `chip_oracle`: calls, and what the Rust and the named differences ask for. The
+//! port is not asked.
+
+use super::{
+    asked::Asked,
+    expected::{self, Kind},
+    inputs,
+};
+use crate::{
+    inputs::{Random, SEED},
+    published::Chip,
+};
+
+/// So many calls of each function of each chip.
+const LISTED: usize = 12;
+
+/// A call's line and what the port must print.
+type Line = (String, String);
+
+pub fn lines() -> Vec<Line> {
+    let mut random = Random(SEED ^ 7);
+    let groups = Chip::BOTH.into_iter().flat_map(inputs::groups);
+    groups.flat_map(|group| picked(group.calls, &mut random)).collect()
+}
+
+/// One call out of each of so many equal parts, where the part has one.
+fn picked(mut calls: Vec<Asked>, random: &mut Random) -> Vec<Line> {
+    let mut lines = Vec::new();
+    for parts in (1..=LISTED).rev() {
+        let part: Vec<Asked> = calls.drain(..calls.len() / parts).collect();
+        let from = random.below(part.len() as u64) as usize;
+        lines.extend(part[from..].iter().find_map(|asked| line(*asked)));
+    }
+    lines
+}
+
+/// Nothing for a cut pair, since those rates are in the list of `oracle`, and for too many notes.
+fn line(asked: Asked) -> Option<Line> {
+    let expected = expected::of(asked).unwrap_or_else(|why| panic!("{}: {why}", asked.line()));
+    let expected = expected.filter(|expected| expected.kind != Kind::Cut)?;
+    Some((asked.line(), expected.line))
+}
