@@ -8,7 +8,6 @@ use crate::{
         asked::{Asked as SetUp, Both, OldUnit, Unit},
         expected::{self, Kind},
         inputs as set_ups,
-        list::some_of,
     },
 };
 
@@ -20,7 +19,7 @@ pub struct Group {
 
 const ALLOWANCES: [u16; 7] = [0, 1, 2, 5, 9, 100, u16::MAX];
 
-/// Of these the first four are the ones of a driver: words, and the largest number of bytes of a descriptor.
+/// Around the ends of words, of a descriptor and of the fields. The new chip's Rust subtracts 1, so 0 is the old chip's alone.
 const LENGTHS: [u32; 18] = [
     4,
     8,
@@ -45,13 +44,13 @@ const LENGTHS: [u32; 18] = [
 const MASKS: std::ops::Range<u8> = 0..16;
 
 /// How many units are taken of each way to make them, and how many that are refused.
-const UNITS: usize = 700;
+const UNITS: usize = 1_600;
 const REFUSED_UNITS: usize = 60;
 
 /// How many random units are looked at.
 const LOOKED_AT: usize = 8_000;
 
-/// The rates of the old chip's pairs, each in turn.
+/// The rates of the old chip's pairs, one of them for each.
 const OLD_RATES: [u32; 8] = [44_100, 2_442, 8_000, 22_050, 48_000, 96_000, 192_000, 629_976];
 
 fn draws() -> impl Iterator<Item = Draw> {
@@ -91,7 +90,8 @@ pub fn groups(chip: Chip) -> Vec<Group> {
 fn plain(chip: Chip) -> Vec<Group> {
     let alone = [Call::SetMaster, Call::Update, Call::ResetTx, Call::TxStop, Call::ResetRx];
     let mut groups: Vec<Group> = alone.map(|call| in_courses(chip, [call].into_iter())).into();
-    groups.push(in_courses(chip, LENGTHS.into_iter().map(Call::RxStart)));
+    let with_zero = (chip == Chip::Old).then_some(0);
+    groups.push(in_courses(chip, LENGTHS.into_iter().chain(with_zero).map(Call::RxStart)));
     groups
 }
 
@@ -159,11 +159,22 @@ fn units(holds: fn(SetUp) -> bool, count: usize) -> Vec<Unit> {
         set_ups::rates_of_units(),
         set_ups::random(LOOKED_AT),
     ];
+    let mut random = Random(SEED ^ 7);
     let of = |way: Vec<Unit>| {
         let held = way.into_iter().filter(|unit| holds(SetUp::New(*unit))).collect();
-        some_of(held, count)
+        parts(held, count).iter().filter_map(|part| any(part, &mut random)).collect::<Vec<Unit>>()
     };
     ways.into_iter().flat_map(of).collect()
+}
+
+/// So many parts of all, as equal as can be.
+pub fn parts<T>(mut all: Vec<T>, count: usize) -> Vec<Vec<T>> {
+    (1..=count).rev().map(|parts| all.drain(..all.len() / parts).collect()).collect()
+}
+
+/// Any one of them, if there is one.
+fn any(units: &[Unit], random: &mut Random) -> Option<Unit> {
+    units.get(random.below(units.len() as u64) as usize).copied()
 }
 
 /// Every unit in either half, and each as the receive unit with any transmit unit that is taken.
@@ -172,8 +183,8 @@ fn new_set_ups() -> Vec<Group> {
     let refused = units(refused, REFUSED_UNITS);
     let mut random = Random(SEED ^ 6);
     let mut with_any = |units: &[Unit]| -> Vec<Call> {
-        let mut any = || taken[random.below(taken.len() as u64) as usize];
-        units.iter().map(|unit| Call::Configure(any(), *unit)).collect()
+        let pair = |unit: &Unit| Some(Call::Configure(any(&taken, &mut random)?, *unit));
+        units.iter().filter_map(pair).collect()
     };
     let both = [with_any(&taken), with_any(&refused)].concat();
     let tx = [taken.clone(), refused.clone()].concat().into_iter().map(Call::ConfigureTx).collect();
@@ -183,12 +194,13 @@ fn new_set_ups() -> Vec<Group> {
 
 /// Every pair of units in both formats.
 fn old_set_ups() -> Vec<Group> {
+    let mut random = Random(SEED ^ 8);
     let mut both = Vec::new();
     let units: Vec<OldUnit> = OldUnit::all().collect();
     for narrow in [false, true] {
         for tx in &units {
             for rx in &units {
-                let rate = OLD_RATES[both.len() % OLD_RATES.len()];
+                let rate = OLD_RATES[random.below(OLD_RATES.len() as u64) as usize];
                 both.push(Both { rate, narrow, tx: *tx, rx: *rx });
             }
         }

@@ -18,20 +18,19 @@ const LISTED: usize = 12;
 type Line = (String, String);
 
 pub fn lines() -> Vec<Line> {
-    let mut random = Random(SEED ^ 7);
+    let mut random = Random(SEED ^ 9);
     let groups = Chip::BOTH.into_iter().flat_map(inputs::groups);
     groups.flat_map(|group| picked(group.calls, &mut random)).collect()
 }
 
-/// One call out of each of so many equal parts, where the part has one.
-fn picked(mut calls: Vec<Asked>, random: &mut Random) -> Vec<Line> {
-    let mut lines = Vec::new();
-    for parts in (1..=LISTED).rev() {
-        let part: Vec<Asked> = calls.drain(..calls.len() / parts).collect();
-        let from = random.below(part.len() as u64) as usize;
-        lines.extend(part[from..].iter().find_map(|asked| line(*asked)));
-    }
-    lines
+/// A call of each part: any one, or the next that has a line.
+fn picked(calls: Vec<Asked>, random: &mut Random) -> Vec<Line> {
+    let parts = inputs::parts(calls, LISTED).into_iter();
+    let from = |part: Vec<Asked>| {
+        let first = random.below(part.len() as u64) as usize;
+        part.into_iter().skip(first).find_map(line)
+    };
+    parts.filter_map(from).collect()
 }
 
 /// Nothing for a cut pair, since those rates are in the list of `oracle`, and for too many notes.

@@ -41,7 +41,7 @@ fn line(asked: Asked) -> Option<Line> {
 }
 
 /// At most that many, evenly out of all.
-pub fn some_of<T>(all: Vec<T>, count: usize) -> Vec<T> {
+fn some_of<T>(all: Vec<T>, count: usize) -> Vec<T> {
     let step = all.len().div_ceil(count).max(1);
     all.into_iter().step_by(step).collect()
 }
