@@ -11,10 +11,22 @@ use crate::{
     },
 };
 
-/// The calls of one function of one chip.
+/// Calls of one function of one chip, and what is said of them beside that.
 pub struct Group {
     pub chip: Chip,
     pub calls: Vec<Asked>,
+    pub of: &'static str,
+}
+
+impl Group {
+    fn new(chip: Chip, calls: Vec<Asked>) -> Group {
+        Group { chip, calls, of: "" }
+    }
+
+    fn at_rest(chip: Chip, calls: Vec<Call>) -> Group {
+        let asked = |call| Asked { chip, before: Before::NEW, call };
+        Group::new(chip, calls.into_iter().map(asked).collect())
+    }
 }
 
 const ALLOWANCES: [u16; 7] = [0, 1, 2, 5, 9, 100, u16::MAX];
@@ -99,7 +111,7 @@ fn in_courses(chip: Chip, calls: impl Iterator<Item = Call>) -> Group {
     let calls = calls
         .flat_map(|call| courses(chip).map(move |before| Asked { chip, before, call }))
         .collect();
-    Group { chip, calls }
+    Group::new(chip, calls)
 }
 
 /// Every allowance with every draw in every course.
@@ -115,7 +127,7 @@ fn polled(chip: Chip) -> Vec<Group> {
                 }
             }
         }
-        Group { chip, calls }
+        Group::new(chip, calls)
     })
     .into()
 }
@@ -137,7 +149,7 @@ fn of_events(chip: Chip) -> Vec<Group> {
         let befores = befores.map(|before| Before { enabled, ..before });
         calls.extend(befores.map(|before| Asked { chip, before, call: Call::Interrupts }));
     }
-    groups.push(Group { chip, calls });
+    groups.push(Group::new(chip, calls));
     groups
 }
 
@@ -186,10 +198,14 @@ fn new_set_ups() -> Vec<Group> {
         let pair = |unit: &Unit| Some(Call::Configure(any(&taken, &mut random)?, *unit));
         units.iter().filter_map(pair).collect()
     };
-    let both = [with_any(&taken), with_any(&refused)].concat();
-    let tx = [taken.clone(), refused.clone()].concat().into_iter().map(Call::ConfigureTx).collect();
-    let rx = [taken, refused].concat().into_iter().map(Call::ConfigureRx).collect();
-    [both, tx, rx].map(|calls: Vec<Call>| at_rest(Chip::New, calls)).into()
+    let alone = |units: &[Unit], call: fn(Unit) -> Call| units.iter().copied().map(call).collect();
+    let mut of = |units: &[Unit]| {
+        let calls =
+            [with_any(units), alone(units, Call::ConfigureTx), alone(units, Call::ConfigureRx)];
+        calls.map(|calls| Group::at_rest(Chip::New, calls))
+    };
+    let (taken, refused) = (of(&taken), of(&refused));
+    taken.into_iter().chain(refused.map(|group| Group { of: ", refused", ..group })).collect()
 }
 
 /// Every pair of units in both formats.
@@ -211,13 +227,8 @@ fn old_set_ups() -> Vec<Group> {
         units.iter().flat_map(|unit| [false, true].map(|narrow| call(*unit, narrow))).collect()
     };
     [both, of(Call::ConfigureOldTx), of(Call::ConfigureOldRx)]
-        .map(|calls: Vec<Call>| at_rest(Chip::Old, calls))
+        .map(|calls: Vec<Call>| Group::at_rest(Chip::Old, calls))
         .into()
-}
-
-fn at_rest(chip: Chip, calls: Vec<Call>) -> Group {
-    let asked = |call| Asked { chip, before: Before::NEW, call };
-    Group { chip, calls: calls.into_iter().map(asked).collect() }
 }
 
 /// Lines that are no call.

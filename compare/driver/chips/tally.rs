@@ -54,7 +54,7 @@ impl Tally {
         let Some(first) = group.calls.first() else {
             return self.wrong("a group without a call".to_string());
         };
-        let name = format!("{}: {}", chip(group.chip), first.call.name());
+        let name = format!("{}: {}{}", chip(group.chip), first.call.name(), group.of);
         let mut counts = Counts::default();
         let mut asked = Vec::new();
         for call in group.calls {

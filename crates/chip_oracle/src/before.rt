@@ -1,6 +1,6 @@
 //! What was done to a chip before the call.
 
-use crate::values::{read_flag, read_interrupts};
+use crate::values::{FLAGS, at_place, read_interrupts};
 use chips::{I2sInterrupts, RegisterAccessPrivate};
 use marks::Draw;
 
@@ -24,14 +24,7 @@ pub struct Before {
 // The length of a start of the receive half, of which a block takes no notice.
 const ANY_LENGTH: u32 = 4;
 
-fn read_course(place: u32) -> Option<Course> {
-    match place {
-        0 => Some(Course::Rest),
-        1 => Some(Course::Started),
-        2 => Some(Course::Ended),
-        _ => None,
-    }
-}
+const COURSES: [Course; 3] = [Course::Rest, Course::Started, Course::Ended];
 
 impl Before {
     /// What the first numbers of a line say; none where they say nothing.
@@ -40,12 +33,12 @@ impl Before {
             return None;
         };
         Some(Before {
-            tx: read_course(*tx)?,
-            rx: read_course(*rx)?,
+            tx: at_place(&COURSES, *tx)?,
+            rx: at_place(&COURSES, *rx)?,
             draw: Draw {
                 late: *late,
                 wait: *wait,
-                hung: read_flag(*hung)?,
+                hung: at_place(&FLAGS, *hung)?,
             },
             enabled: read_interrupts(*enabled)?,
         })

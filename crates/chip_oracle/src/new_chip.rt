@@ -3,7 +3,7 @@
 use crate::before::Before;
 use crate::calls::{Answer, call};
 use crate::print;
-use crate::values::{read_flag, read_polarity};
+use crate::values::{FLAGS, POLARITIES, at_place};
 use blocks::RegBlock;
 use chips::RegisterAccessPrivate;
 use dividers::Rate;
@@ -26,18 +26,19 @@ fn read_fill(filled: u32, fill: u32) -> Option<Option<u32>> {
     }
 }
 
-fn read_format(place: u32) -> Option<DataFormat> {
-    match place {
-        0 => Some(DataFormat::Data32Channel32),
-        1 => Some(DataFormat::Data32Channel24),
-        2 => Some(DataFormat::Data32Channel16),
-        3 => Some(DataFormat::Data32Channel8),
-        4 => Some(DataFormat::Data16Channel16),
-        5 => Some(DataFormat::Data16Channel8),
-        6 => Some(DataFormat::Data8Channel8),
-        _ => None,
-    }
-}
+const FORMATS: [DataFormat; 7] = [
+    DataFormat::Data32Channel32,
+    DataFormat::Data32Channel24,
+    DataFormat::Data32Channel16,
+    DataFormat::Data32Channel8,
+    DataFormat::Data16Channel16,
+    DataFormat::Data16Channel8,
+    DataFormat::Data8Channel8,
+];
+
+const ENDIANNESSES: [Endianness; 2] = [Endianness::LittleEndian, Endianness::BigEndian];
+
+const ORDERS: [BitOrder; 2] = [BitOrder::MsbFirst, BitOrder::LsbFirst];
 
 fn read_width(place: u32, bits: u32) -> Option<WsWidth> {
     match place {
@@ -45,22 +46,6 @@ fn read_width(place: u32, bits: u32) -> Option<WsWidth> {
         1 if bits == 0 => Some(WsWidth::OneChannel),
         2 if bits == 0 => Some(WsWidth::Bit),
         3 => Some(WsWidth::Bits(u16::try_from(bits).ok()?)),
-        _ => None,
-    }
-}
-
-fn read_endianness(place: u32) -> Option<Endianness> {
-    match place {
-        0 => Some(Endianness::LittleEndian),
-        1 => Some(Endianness::BigEndian),
-        _ => None,
-    }
-}
-
-fn read_order(place: u32) -> Option<BitOrder> {
-    match place {
-        0 => Some(BitOrder::MsbFirst),
-        1 => Some(BitOrder::LsbFirst),
         _ => None,
     }
 }
@@ -91,12 +76,12 @@ fn read_unit(numbers: &[u32]) -> Option<UnitConfig> {
             u16::try_from(*mask).ok()?,
             read_fill(*filled, *fill)?,
         ),
-        data_format: read_format(*format)?,
+        data_format: at_place(&FORMATS, *format)?,
         ws_width: read_width(*width, *bits)?,
-        ws_polarity: read_polarity(*polarity)?,
-        msb_shift: read_flag(*shift)?,
-        endianness: read_endianness(*endianness)?,
-        bit_order: read_order(*order)?,
+        ws_polarity: at_place(&POLARITIES, *polarity)?,
+        msb_shift: at_place(&FLAGS, *shift)?,
+        endianness: at_place(&ENDIANNESSES, *endianness)?,
+        bit_order: at_place(&ORDERS, *order)?,
     })
 }
 

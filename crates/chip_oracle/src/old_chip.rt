@@ -3,7 +3,7 @@
 use crate::before::Before;
 use crate::calls::{Answer, call};
 use crate::print;
-use crate::values::{read_flag, read_polarity};
+use crate::values::{FLAGS, POLARITIES, at_place};
 use blocks::RegBlock;
 use chips::RegisterAccessPrivate;
 use dividers::Rate;
@@ -16,41 +16,26 @@ use std::io;
 // The numbers of a unit.
 const WORDS: usize = 4;
 
-fn read_channels(place: u32) -> Option<Channels> {
-    match place {
-        0 => Some(Channels::Stereo),
-        1 => Some(Channels::Mono),
-        2 => Some(Channels::Left),
-        3 => Some(Channels::Right),
-        _ => None,
-    }
-}
+const CHANNELS: [Channels; 4] = [
+    Channels::Stereo,
+    Channels::Mono,
+    Channels::Left,
+    Channels::Right,
+];
 
-fn read_width(place: u32) -> Option<WsWidth> {
-    match place {
-        0 => Some(WsWidth::HalfFrame),
-        1 => Some(WsWidth::Bit),
-        _ => None,
-    }
-}
+const WIDTHS: [WsWidth; 2] = [WsWidth::HalfFrame, WsWidth::Bit];
 
-fn read_format(place: u32) -> Option<DataFormat> {
-    match place {
-        0 => Some(DataFormat::Data32Channel32),
-        1 => Some(DataFormat::Data16Channel16),
-        _ => None,
-    }
-}
+const FORMATS: [DataFormat; 2] = [DataFormat::Data32Channel32, DataFormat::Data16Channel16];
 
 fn read_unit(numbers: &[u32]) -> Option<UnitConfig> {
     let [channels, width, polarity, shift] = numbers else {
         return None;
     };
     Some(UnitConfig {
-        channels: read_channels(*channels)?,
-        ws_width: read_width(*width)?,
-        ws_polarity: read_polarity(*polarity)?,
-        msb_shift: read_flag(*shift)?,
+        channels: at_place(&CHANNELS, *channels)?,
+        ws_width: at_place(&WIDTHS, *width)?,
+        ws_polarity: at_place(&POLARITIES, *polarity)?,
+        msb_shift: at_place(&FLAGS, *shift)?,
     })
 }
 
@@ -64,7 +49,7 @@ fn read_both(numbers: &[u32]) -> Option<Config> {
         tx_config: read_unit(tx)?,
         rx_config: read_unit(rx)?,
         sample_rate: Rate::from_hz(*rate),
-        data_format: read_format(*format)?,
+        data_format: at_place(&FORMATS, *format)?,
     })
 }
 
@@ -88,7 +73,7 @@ fn configure_unit<B: RegBlock>(
     let [format, unit @ ..] = arguments else {
         return None;
     };
-    let (unit, format) = (read_unit(unit)?, read_format(*format)?);
+    let (unit, format) = (read_unit(unit)?, at_place(&FORMATS, *format)?);
     Some(match Esp32::<B>::check(&unit, format) {
         Ok(setup) => {
             if transmit {

@@ -3,22 +3,14 @@
 use chips::I2sInterrupts;
 use setups::Polarity;
 
-/// 0 or 1.
-pub fn read_flag(number: u32) -> Option<bool> {
-    match number {
-        0 => Some(false),
-        1 => Some(true),
-        _ => None,
-    }
-}
+/// What 0 and 1 stand for.
+pub const FLAGS: [bool; 2] = [false, true];
 
-/// A polarity by its place.
-pub fn read_polarity(place: u32) -> Option<Polarity> {
-    match place {
-        0 => Some(Polarity::ActiveHigh),
-        1 => Some(Polarity::ActiveLow),
-        _ => None,
-    }
+pub const POLARITIES: [Polarity; 2] = [Polarity::ActiveHigh, Polarity::ActiveLow];
+
+/// The value at a place; none where there are fewer.
+pub fn at_place<T: Copy>(values: &[T], place: u32) -> Option<T> {
+    values.get(place as usize).copied()
 }
 
 /// A mask of the driver's events.
