@@ -1,6 +1,8 @@
 //! Writes the fixed lists: answers of the published Rust, one to a line. The port is not asked.
-//! usage: list dividers|set-ups|answers
+//! usage: list dividers|set-ups|answers|calls|call-answers
 
+#[allow(dead_code)]
+mod chips;
 #[allow(dead_code)]
 mod exact;
 #[allow(dead_code)]
@@ -22,7 +24,9 @@ fn main() {
         Some("dividers") => print_dividers(),
         Some("set-ups") => print_set_ups(),
         Some("answers") => print_answers(),
-        _ => panic!("usage: list dividers|set-ups|answers"),
+        Some("calls") => print_calls(),
+        Some("call-answers") => print_call_answers(),
+        _ => panic!("usage: list dividers|set-ups|answers|calls|call-answers"),
     }
 }
 
@@ -35,6 +39,19 @@ fn print_set_ups() {
 
 fn print_answers() {
     for (_, answer) in setups::list::lines() {
+        println!("{answer}");
+    }
+}
+
+fn print_calls() {
+    println!("# seed of the random inputs: {SEED:#x}");
+    for (call, _) in chips::list::lines() {
+        println!("{call}");
+    }
+}
+
+fn print_call_answers() {
+    for (_, answer) in chips::list::lines() {
         println!("{answer}");
     }
 }

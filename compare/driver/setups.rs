@@ -1,12 +1,12 @@
 //! Compares the port's check of set-ups with what the published Rust stores.
 
-mod asked;
-mod expected;
+pub mod asked;
+pub mod expected;
 pub mod inputs;
 pub mod list;
-mod numbers;
+pub mod numbers;
 pub mod port;
-mod recorded;
+pub mod recorded;
 pub mod tally;
 
 use std::path::PathBuf;

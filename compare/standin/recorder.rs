@@ -1,7 +1,7 @@
 //! What a run of the published driver does to the registers, noted by the stand-ins in its order.
 //! A stand-in that has more to tell, as of a transfer, adds a kind of event.
 
-use std::cell::RefCell;
+use std::{cell::RefCell, rc::Rc};
 
 #[derive(Clone, Copy, Debug, PartialEq, Eq)]
 pub enum Event {
@@ -13,8 +13,17 @@ pub enum Event {
     Written { register: &'static str },
 }
 
+/// What stands behind the registers in a run: it is told each event as it comes, and what it holds is read.
+pub trait Behind {
+    fn told(&mut self, event: Event);
+
+    /// What the latest read of the register found in a field.
+    fn found(&self, register: &'static str, field: &'static str) -> u32;
+}
+
 thread_local! {
     static NOTED: RefCell<Option<Vec<Event>>> = const { RefCell::new(None) };
+    static BEHIND: RefCell<Option<Rc<RefCell<dyn Behind>>>> = const { RefCell::new(None) };
 }
 
 /// Notes an event, if somebody asked for the events of this run.
@@ -24,6 +33,18 @@ pub fn note(event: Event) {
             events.push(event);
         }
     });
+    if let Some(behind) = behind() {
+        behind.borrow_mut().told(event);
+    }
+}
+
+/// What a field that was read holds: 0 where nothing stands behind the registers.
+pub fn found(register: &'static str, field: &'static str) -> u32 {
+    behind().map_or(0, |behind| behind.borrow().found(register, field))
+}
+
+fn behind() -> Option<Rc<RefCell<dyn Behind>>> {
+    BEHIND.with_borrow(|behind| behind.clone())
 }
 
 /// What a run gives, and its events. A run that may panic catches that itself.
@@ -31,4 +52,12 @@ pub fn recorded<T>(run: impl FnOnce() -> T) -> (T, Vec<Event>) {
     NOTED.set(Some(Vec::with_capacity(128)));
     let given = run();
     (given, NOTED.take().unwrap_or_default())
+}
+
+/// What a run gives with this behind the registers. A run that may panic catches that itself.
+pub fn over<T>(block: Rc<RefCell<dyn Behind>>, run: impl FnOnce() -> T) -> T {
+    BEHIND.set(Some(block));
+    let given = run();
+    BEHIND.set(None);
+    given
 }

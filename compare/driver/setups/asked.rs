@@ -38,6 +38,10 @@ impl Unit {
     }
 
     pub fn line(&self) -> String {
+        format!("1 {}", self.words())
+    }
+
+    pub fn words(&self) -> String {
         let filled = self.fill.is_some() as u8;
         let fill = self.fill.unwrap_or(0);
         let (width, bits) = match self.width {
@@ -50,7 +54,7 @@ impl Unit {
         let [polarity, shift, endianness, order] = flags.map(u8::from);
         let Unit { rate, count, mask, format, .. } = self;
         format!(
-            "1 {rate} {count} {mask} {filled} {fill} {format} {width} {bits} {polarity} {shift} \
+            "{rate} {count} {mask} {filled} {fill} {format} {width} {bits} {polarity} {shift} \
              {endianness} {order}"
         )
     }
@@ -75,7 +79,7 @@ impl OldUnit {
         })
     }
 
-    fn words(&self) -> String {
+    pub fn words(&self) -> String {
         let flags = [self.bit_wide, self.active_low, self.msb_shift];
         let [width, polarity, shift] = flags.map(u8::from);
         format!("{} {width} {polarity} {shift}", self.channels)
@@ -97,8 +101,12 @@ impl Both {
     }
 
     pub fn line(&self) -> String {
+        format!("0 {}", self.words())
+    }
+
+    pub fn words(&self) -> String {
         let Both { rate, narrow, tx, rx } = self;
-        format!("0 {rate} {} {} {}", *narrow as u8, tx.words(), rx.words())
+        format!("{rate} {} {} {}", *narrow as u8, tx.words(), rx.words())
     }
 }
 

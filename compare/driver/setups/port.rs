@@ -1,4 +1,4 @@
-//! The port, as the program `setup_oracle`, which answers lines of standard input.
+//! The port, as a program that answers lines of standard input.
 
 use std::{
     io::Write,
@@ -15,7 +15,7 @@ impl Port {
         let output = self.run(lines);
         if !output.status.success() {
             let said = String::from_utf8_lossy(&output.stderr).into_owned();
-            return Err(format!("setup_oracle ends with {}: {said}", output.status));
+            return Err(format!("the program ends with {}: {said}", output.status));
         }
         let answers = String::from_utf8(output.stdout).map_err(|error| error.to_string())?;
         Ok(answers.lines().map(str::to_string).collect())

@@ -63,7 +63,7 @@ fn answered(run: impl FnOnce() -> Result<(), u32> + UnwindSafe) -> Answer {
 
 macro_rules! new_chip {
     ($name:ident, $build:ident) => {
-        mod $name {
+        pub mod $name {
             use $build::{
                 Window,
                 i2s::master::{
@@ -114,7 +114,7 @@ macro_rules! new_chip {
                 })
             }
 
-            fn config(unit: Unit, channels: Channels) -> UnitConfig {
+            pub fn config(unit: Unit, channels: Channels) -> UnitConfig {
                 UnitConfig::new_tdm_philips()
                     .with_sample_rate(Rate::from_hz(unit.rate))
                     .with_channels(channels)
@@ -141,7 +141,7 @@ macro_rules! new_chip {
             }
 
             /// The port's number of the refusal.
-            fn number(error: ConfigError) -> u32 {
+            pub fn number(error: ConfigError) -> u32 {
                 match error {
                     ConfigError::ChannelsOutOfRange => 1,
                     ConfigError::WsWidthOutOfRange => 2,
@@ -157,7 +157,7 @@ new_chip!(unchecked_unit, new_unchecked);
 
 macro_rules! old_chip {
     ($name:ident, $build:ident) => {
-        mod $name {
+        pub mod $name {
             use $build::{
                 Window,
                 i2s::master::{Channels, Config, DataFormat, Polarity, UnitConfig, WsWidth},
@@ -176,7 +176,7 @@ macro_rules! old_chip {
                 answered(move || Window::set_up_both(&config(both)).map_err(|_| 0))
             }
 
-            fn config(both: Both) -> Config {
+            pub fn config(both: Both) -> Config {
                 Config::new_tdm_philips()
                     .with_sample_rate(Rate::from_hz(both.rate))
                     .with_data_format(match both.narrow {
@@ -187,7 +187,7 @@ macro_rules! old_chip {
                     .with_rx_config(unit(both.rx))
             }
 
-            fn unit(unit: OldUnit) -> UnitConfig {
+            pub fn unit(unit: OldUnit) -> UnitConfig {
                 UnitConfig::new_tdm_philips()
                     .with_channels(CHANNELS[unit.channels])
                     .with_ws_width(match unit.bit_wide {

@@ -50,6 +50,115 @@ macro_rules! window {
             Self::first().configure_rx(config)
         }
 
+        /// The events of a mask: 1 for rx_hung, 2 for tx_hung, 4 for rx_done, 8 for tx_done. One that the
+        /// chip lacks is passed over.
+        fn events_of(mask: u8) -> EnumSet<I2sInterrupt> {
+            let mut events = EnumSet::new();
+            for (bit, event) in Self::EVENTS.into_iter().enumerate() {
+                if mask >> bit & 1 != 0 {
+                    events.insert(event);
+                }
+            }
+            events
+        }
+
+        #[cfg(esp32)]
+        const EVENTS: [I2sInterrupt; 2] = [I2sInterrupt::RxHung, I2sInterrupt::TxHung];
+
+        #[cfg(esp32c3)]
+        const EVENTS: [I2sInterrupt; 4] = [
+            I2sInterrupt::RxHung,
+            I2sInterrupt::TxHung,
+            I2sInterrupt::RxDone,
+            I2sInterrupt::TxDone,
+        ];
+
+        #[inline(never)]
+        pub fn set_up_master() {
+            Self::first().set_master()
+        }
+
+        #[inline(never)]
+        pub fn updated() {
+            Self::first().update()
+        }
+
+        #[inline(never)]
+        pub fn enabled_listen(mask: u8, enable: bool) {
+            Self::first().enable_listen(Self::events_of(mask), enable)
+        }
+
+        #[cfg(esp32c3)]
+        #[inline(never)]
+        pub fn listened(mask: u8) {
+            RegisterAccessPrivate::listen(&Self::first(), Self::events_of(mask))
+        }
+
+        #[cfg(esp32c3)]
+        #[inline(never)]
+        pub fn unlistened(mask: u8) {
+            RegisterAccessPrivate::unlisten(&Self::first(), Self::events_of(mask))
+        }
+
+        #[inline(never)]
+        pub fn reported() -> u8 {
+            let events = Self::first().interrupts();
+            let bits = Self::EVENTS.into_iter().enumerate();
+            bits.map(|(bit, event)| (events.contains(event) as u8) << bit).sum()
+        }
+
+        #[inline(never)]
+        pub fn cleared(mask: u8) {
+            Self::first().clear_interrupts(Self::events_of(mask))
+        }
+
+        #[inline(never)]
+        pub fn tx_reset() {
+            Self::first().reset_tx()
+        }
+
+        #[inline(never)]
+        pub fn tx_started() {
+            Self::first().tx_start()
+        }
+
+        #[inline(never)]
+        pub fn tx_stopped() {
+            Self::first().tx_stop()
+        }
+
+        #[inline(never)]
+        pub fn tx_waited() {
+            Self::first().wait_for_tx_done()
+        }
+
+        #[inline(never)]
+        pub fn rx_reset() {
+            Self::first().reset_rx()
+        }
+
+        #[inline(never)]
+        pub fn rx_started(len: usize) {
+            Self::first().rx_start(len)
+        }
+
+        #[inline(never)]
+        pub fn rx_waited() {
+            Self::first().wait_for_rx_done()
+        }
+
+        #[cfg(esp32)]
+        #[inline(never)]
+        pub fn set_up_tx(config: &UnitConfig, format: DataFormat) -> Result<(), ConfigError> {
+            Self::first().configure_tx(config, format)
+        }
+
+        #[cfg(esp32)]
+        #[inline(never)]
+        pub fn set_up_rx(config: &UnitConfig, format: DataFormat) -> Result<(), ConfigError> {
+            Self::first().configure_rx(config, format)
+        }
+
         /// `Channels::new`; inlined into another crate it would have that crate's overflow checks.
         #[cfg(esp32c3)]
         #[inline(never)]

@@ -1,12 +1,13 @@
 //! Stand-in for the crates `esp32` and `esp32c3`, which give the registers of a chip by name.
 //!
 //! No register is reached and no number kept. Reads, puts and writes are told to the recorder, by
-//! name and in their order; every put of the driver goes through `W::put`. A read gives 0.
+//! name and in their order; every put of the driver goes through `W::put`. A field that is read holds
+//! what the recorder finds, a register as a whole 0.
 #![no_std]
 
 use core::marker::PhantomData;
 
-use recorder::{Event, note};
+use recorder::{Event, found, note};
 
 /// A register's name.
 pub trait Named {
@@ -45,9 +46,13 @@ impl<S: Named> Register<S> {
     }
 }
 
-impl<S> R<S> {
+impl<S: Named> R<S> {
     pub fn bits(&self) -> u32 {
         0
+    }
+
+    fn bit(&self, field: &'static str) -> FieldR<bool> {
+        FieldR(found(S::NAME, field) != 0)
     }
 }
 
@@ -85,6 +90,26 @@ impl<'a, S: Named> FieldW<'a, S, bool> {
         self.bit(true)
     }
 }
+
+/// How a field of this kind is read; of the driver's all are bits.
+trait Found: Sized {
+    fn field<S: Named>(register: &R<S>, name: &'static str) -> FieldR<Self>;
+}
+
+impl Found for bool {
+    fn field<S: Named>(register: &R<S>, name: &'static str) -> FieldR<bool> {
+        register.bit(name)
+    }
+}
+
+macro_rules! wide {
+    ($($kind:ty)*) => { $(impl Found for $kind {
+        fn field<S: Named>(_: &R<S>, _: &'static str) -> FieldR<$kind> {
+            FieldR(0)
+        }
+    })* };
+}
+wide!(u8 u16 u32);
 
 impl<T: Copy> FieldR<T> {
     pub fn bits(&self) -> T {
@@ -133,7 +158,7 @@ macro_rules! block {
 
                 impl crate::R<Spec> {
                     $($(pub fn $field(&self) -> crate::FieldR<$kind> {
-                        crate::FieldR(Default::default())
+                        <$kind as crate::Found>::field(self, stringify!($field))
                     })*)*
                 }
             })*

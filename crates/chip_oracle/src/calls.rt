@@ -1,0 +1,64 @@
+//! Calls that every chip takes.
+
+use crate::values::{FLAGS, at_place, read_interrupts};
+use chips::{I2sInterrupts, RegisterAccessPrivate};
+
+/// What a call answers.
+#[derive(Clone, Copy)]
+pub enum Answer {
+    Nothing,
+    Polls(Option<u32>),
+    Events(I2sInterrupts),
+    Refused(u8),
+}
+
+fn read_allowance(arguments: &[u32]) -> Option<u16> {
+    match arguments {
+        [allowance] => u16::try_from(*allowance).ok(),
+        _ => None,
+    }
+}
+
+// A call that answers nothing; none where it is not one of these, or is not called like that.
+fn plain<C: RegisterAccessPrivate>(chip: &mut C, name: &str, arguments: &[u32]) -> Option<()> {
+    match (name, arguments) {
+        ("set_master", []) => chip.set_master(),
+        ("update", []) => chip.update(),
+        ("reset_tx", []) => chip.reset_tx(),
+        ("tx_stop", []) => chip.tx_stop(),
+        ("reset_rx", []) => chip.reset_rx(),
+        ("rx_start", [len]) => chip.rx_start(*len),
+        ("enable_listen", [mask, on]) => {
+            chip.enable_listen(read_interrupts(*mask)?, at_place(&FLAGS, *on)?);
+        }
+        ("listen", [mask]) => chip.listen(read_interrupts(*mask)?),
+        ("unlisten", [mask]) => chip.unlisten(read_interrupts(*mask)?),
+        ("clear_interrupts", [mask]) => chip.clear_interrupts(read_interrupts(*mask)?),
+        _ => return None,
+    }
+    Some(())
+}
+
+/// Makes the call; none where no chip has it, or it is not called like that.
+pub fn call<C: RegisterAccessPrivate>(
+    chip: &mut C,
+    name: &str,
+    arguments: &[u32],
+) -> Option<Answer> {
+    match name {
+        "tx_start" => Some(Answer::Polls(chip.tx_start(read_allowance(arguments)?))),
+        "wait_for_tx_done" => {
+            let polls = chip.wait_for_tx_done(read_allowance(arguments)?);
+            Some(Answer::Polls(polls))
+        }
+        "wait_for_rx_done" => {
+            let polls = chip.wait_for_rx_done(read_allowance(arguments)?);
+            Some(Answer::Polls(polls))
+        }
+        "interrupts" if arguments.is_empty() => Some(Answer::Events(chip.interrupts())),
+        _ => {
+            plain(chip, name, arguments)?;
+            Some(Answer::Nothing)
+        }
+    }
+}
