@@ -28,7 +28,7 @@ const COURSES: [Course; 3] = [Course::Rest, Course::Started, Course::Ended];
 
 impl Before {
     /// What the first numbers of a line say; none where they say nothing.
-    pub fn read(numbers: &[u32]) -> Option<Before> {
+    pub(crate) fn read(numbers: &[u32]) -> Option<Before> {
         let [tx, rx, late, wait, hung, enabled] = numbers else {
             return None;
         };
@@ -45,7 +45,7 @@ impl Before {
     }
 
     /// Brings a new chip there.
-    pub fn bring<C: RegisterAccessPrivate>(&self, chip: &mut C) {
+    pub(crate) fn bring<C: RegisterAccessPrivate>(&self, chip: &mut C) {
         chip.listen(self.enabled);
         if self.tx != Course::Rest {
             let _ = chip.tx_start(0);

@@ -40,7 +40,7 @@ fn plain<C: RegisterAccessPrivate>(chip: &mut C, name: &str, arguments: &[u32]) 
 }
 
 /// Makes the call; none where no chip has it, or it is not called like that.
-pub fn call<C: RegisterAccessPrivate>(
+pub(crate) fn call<C: RegisterAccessPrivate>(
     chip: &mut C,
     name: &str,
     arguments: &[u32],

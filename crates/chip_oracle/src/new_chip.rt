@@ -129,7 +129,12 @@ fn called<B: RegBlock>(chip: &mut Esp32C3<B>, name: &str, arguments: &[u32]) -> 
 }
 
 /// Makes a call and prints what it did; false where the chip has none like that.
-pub fn run(rt: &HostRuntime, before: Before, name: &str, arguments: &[u32]) -> io::Result<bool> {
+pub(crate) fn run(
+    rt: &HostRuntime,
+    before: Before,
+    name: &str,
+    arguments: &[u32],
+) -> io::Result<bool> {
     let mut chip = Esp32C3 {
         block: PacedBlock::new(before.draw, before.draw),
     };

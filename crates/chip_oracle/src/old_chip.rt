@@ -98,7 +98,12 @@ fn called<B: RegBlock>(chip: &mut Esp32<B>, name: &str, arguments: &[u32]) -> Op
 }
 
 /// Makes a call and prints what it did; false where the chip has none like that.
-pub fn run(rt: &HostRuntime, before: Before, name: &str, arguments: &[u32]) -> io::Result<bool> {
+pub(crate) fn run(
+    rt: &HostRuntime,
+    before: Before,
+    name: &str,
+    arguments: &[u32],
+) -> io::Result<bool> {
     let mut chip = Esp32 {
         block: PacedBlock::new(before.draw, before.draw),
     };

@@ -88,7 +88,7 @@ fn print_answer(rt: &HostRuntime, answer: Answer) -> io::Result<()> {
 }
 
 /// Prints the notes of a call in their order, and its answer; false, and nothing printed, where notes were lost.
-pub fn all(rt: &HostRuntime, notes: &Notes, answer: Answer) -> io::Result<bool> {
+pub(crate) fn all(rt: &HostRuntime, notes: &Notes, answer: Answer) -> io::Result<bool> {
     if notes.lost != 0 {
         return Ok(false);
     }

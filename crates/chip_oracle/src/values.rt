@@ -9,12 +9,12 @@ pub const FLAGS: [bool; 2] = [false, true];
 pub const POLARITIES: [Polarity; 2] = [Polarity::ActiveHigh, Polarity::ActiveLow];
 
 /// The value at a place; none where there are fewer.
-pub fn at_place<T: Copy>(values: &[T], place: u32) -> Option<T> {
+pub(crate) fn at_place<T: Copy>(values: &[T], place: u32) -> Option<T> {
     values.get(place as usize).copied()
 }
 
 /// A mask of the driver's events.
-pub fn read_interrupts(mask: u32) -> Option<I2sInterrupts> {
+pub(crate) fn read_interrupts(mask: u32) -> Option<I2sInterrupts> {
     if mask > 15 {
         return None;
     }

@@ -55,7 +55,7 @@ fn read_order(place: u32) -> Option<BitOrder> {
 }
 
 /// A line's numbers as a unit; none where they are not one.
-pub fn read(numbers: &[u32]) -> Option<UnitConfig> {
+pub(crate) fn read(numbers: &[u32]) -> Option<UnitConfig> {
     let [
         1,
         rate,
@@ -129,7 +129,7 @@ fn print_numbers(rt: &HostRuntime, n: UnitNumbers) -> io::Result<()> {
 }
 
 /// Checks a unit, and prints its numbers or what refuses it.
-pub fn print(rt: &HostRuntime, unit: &UnitConfig) -> io::Result<()> {
+pub(crate) fn print(rt: &HostRuntime, unit: &UnitConfig) -> io::Result<()> {
     match unit.check(ClockReach::esp32c3()) {
         Ok(setup) => print_numbers(rt, setup.numbers()),
         Err(error) => println!(rt; "refused {}", error.number()),

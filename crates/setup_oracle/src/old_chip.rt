@@ -46,7 +46,7 @@ fn read_unit(numbers: &[u32]) -> Option<UnitConfig> {
 }
 
 /// A line's numbers as both units; none where they are not that.
-pub fn read(numbers: &[u32]) -> Option<Config> {
+pub(crate) fn read(numbers: &[u32]) -> Option<Config> {
     let [0, rate, format, units @ ..] = numbers else {
         return None;
     };
@@ -93,7 +93,7 @@ fn print_rx(rt: &HostRuntime, n: UnitNumbers) -> io::Result<()> {
 }
 
 /// Checks both units, and prints their numbers or what refuses them.
-pub fn print(rt: &HostRuntime, both: &Config) -> io::Result<()> {
+pub(crate) fn print(rt: &HostRuntime, both: &Config) -> io::Result<()> {
     match both.check(ClockReach::esp32()) {
         Ok(setup) => {
             print_clock(rt, setup.numbers())?;

@@ -3,7 +3,7 @@
 use setups::Polarity;
 
 /// 0 or 1.
-pub fn read_flag(number: u32) -> Option<bool> {
+pub(crate) fn read_flag(number: u32) -> Option<bool> {
     match number {
         0 => Some(false),
         1 => Some(true),
@@ -12,7 +12,7 @@ pub fn read_flag(number: u32) -> Option<bool> {
 }
 
 /// A polarity by its place.
-pub fn read_polarity(place: u32) -> Option<Polarity> {
+pub(crate) fn read_polarity(place: u32) -> Option<Polarity> {
     match place {
         0 => Some(Polarity::ActiveHigh),
         1 => Some(Polarity::ActiveLow),
