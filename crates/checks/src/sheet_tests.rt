@@ -22,7 +22,93 @@ const SHEETS: [(&str, Outcome, &str); 15] = [
         "accepted: integer part 78, bit divider 4, pair 8 1, split 7 0 1 0\n\
          slot 1               2               3               4\n\
          data ################................################################\n\
-         ws   ----------------________________________________________________\n",
+         ws   ----------------________________________________________________\n\
+         puts of the transmit unit, in order:\n\
+         tx_clkm_div_x = 7 (9 bits)\n\
+         tx_clkm_div_y = 0 (9 bits)\n\
+         tx_clkm_div_yn1 = 0 (1 bit)\n\
+         tx_clkm_div_z = 1 (9 bits)\n\
+         clk_en = 1 (1 bit)\n\
+         tx_clk_active = 1 (1 bit)\n\
+         tx_clk_sel = 2 (2 bits)\n\
+         tx_clkm_div_num = 78 (8 bits)\n\
+         tx_bck_div_num = 3 (6 bits)\n\
+         tx_msb_shift = 0 (1 bit)\n\
+         tx_tdm_ws_width = 15 (7 bits)\n\
+         tx_bits_mod = 15 (5 bits)\n\
+         tx_tdm_chan_bits = 15 (5 bits)\n\
+         tx_half_sample_bits = 31 (6 bits)\n\
+         tx_mono = 0 (1 bit)\n\
+         tx_mono_fst_vld = 1 (1 bit)\n\
+         tx_stop_en = 1 (1 bit)\n\
+         tx_chan_equal = 0 (1 bit)\n\
+         tx_tdm_en = 1 (1 bit)\n\
+         tx_pdm_en = 0 (1 bit)\n\
+         tx_pcm_bypass = 1 (1 bit)\n\
+         tx_big_endian = 0 (1 bit)\n\
+         tx_bit_order = 0 (1 bit)\n\
+         tx_ws_idle_pol = 1 (1 bit)\n\
+         tx_chan_mod = 0 (3 bits)\n\
+         tx_tdm_tot_chan_num = 3 (4 bits)\n\
+         tx_tdm_chan0_en = 1 (1 bit)\n\
+         tx_tdm_chan1_en = 0 (1 bit)\n\
+         tx_tdm_chan2_en = 1 (1 bit)\n\
+         tx_tdm_chan3_en = 1 (1 bit)\n\
+         tx_tdm_chan4_en = 0 (1 bit)\n\
+         tx_tdm_chan5_en = 0 (1 bit)\n\
+         tx_tdm_chan6_en = 0 (1 bit)\n\
+         tx_tdm_chan7_en = 0 (1 bit)\n\
+         tx_tdm_chan8_en = 0 (1 bit)\n\
+         tx_tdm_chan9_en = 0 (1 bit)\n\
+         tx_tdm_chan10_en = 0 (1 bit)\n\
+         tx_tdm_chan11_en = 0 (1 bit)\n\
+         tx_tdm_chan12_en = 0 (1 bit)\n\
+         tx_tdm_chan13_en = 0 (1 bit)\n\
+         tx_tdm_chan14_en = 0 (1 bit)\n\
+         tx_tdm_chan15_en = 0 (1 bit)\n\
+         tx_tdm_skip_msk_en = 0 (1 bit)\n\
+         single_data = 0 (32 bits)\n\
+         puts of the receive unit, in order:\n\
+         rx_clkm_div_x = 7 (9 bits)\n\
+         rx_clkm_div_y = 0 (9 bits)\n\
+         rx_clkm_div_yn1 = 0 (1 bit)\n\
+         rx_clkm_div_z = 1 (9 bits)\n\
+         rx_clk_active = 1 (1 bit)\n\
+         rx_clk_sel = 2 (2 bits)\n\
+         rx_clkm_div_num = 78 (8 bits)\n\
+         mclk_sel = 1 (1 bit)\n\
+         rx_bck_div_num = 3 (6 bits)\n\
+         rx_msb_shift = 0 (1 bit)\n\
+         rx_tdm_ws_width = 15 (7 bits)\n\
+         rx_bits_mod = 15 (5 bits)\n\
+         rx_tdm_chan_bits = 15 (5 bits)\n\
+         rx_half_sample_bits = 31 (6 bits)\n\
+         rx_mono = 0 (1 bit)\n\
+         rx_mono_fst_vld = 1 (1 bit)\n\
+         rx_stop_mode = 2 (2 bits)\n\
+         rx_tdm_en = 1 (1 bit)\n\
+         rx_pdm_en = 0 (1 bit)\n\
+         rx_pcm_bypass = 1 (1 bit)\n\
+         rx_big_endian = 0 (1 bit)\n\
+         rx_bit_order = 0 (1 bit)\n\
+         rx_ws_idle_pol = 1 (1 bit)\n\
+         rx_tdm_tot_chan_num = 3 (4 bits)\n\
+         rx_tdm_pdm_chan0_en = 1 (1 bit)\n\
+         rx_tdm_pdm_chan1_en = 0 (1 bit)\n\
+         rx_tdm_pdm_chan2_en = 1 (1 bit)\n\
+         rx_tdm_pdm_chan3_en = 1 (1 bit)\n\
+         rx_tdm_pdm_chan4_en = 0 (1 bit)\n\
+         rx_tdm_pdm_chan5_en = 0 (1 bit)\n\
+         rx_tdm_pdm_chan6_en = 0 (1 bit)\n\
+         rx_tdm_pdm_chan7_en = 0 (1 bit)\n\
+         rx_tdm_chan8_en = 0 (1 bit)\n\
+         rx_tdm_chan9_en = 0 (1 bit)\n\
+         rx_tdm_chan10_en = 0 (1 bit)\n\
+         rx_tdm_chan11_en = 0 (1 bit)\n\
+         rx_tdm_chan12_en = 0 (1 bit)\n\
+         rx_tdm_chan13_en = 0 (1 bit)\n\
+         rx_tdm_chan14_en = 0 (1 bit)\n\
+         rx_tdm_chan15_en = 0 (1 bit)\n",
     ),
     // Sixteen slots, whose numbers have two digits.
     (
@@ -42,7 +128,93 @@ const SHEETS: [(&str, Outcome, &str); 15] = [
          slot 1       2       3       4       5       6       7       8       9       10      11      12      13      14      15      16\n\
          data ########................................................................................................................########\n\
          ws   ___-----------------------------------------------------------------------------------------------------------------------------\n\
-         shift: data lags word select by one bit, which is not drawn\n",
+         shift: data lags word select by one bit, which is not drawn\n\
+         puts of the transmit unit, in order:\n\
+         tx_clkm_div_x = 4 (9 bits)\n\
+         tx_clkm_div_y = 61 (9 bits)\n\
+         tx_clkm_div_yn1 = 0 (1 bit)\n\
+         tx_clkm_div_z = 76 (9 bits)\n\
+         clk_en = 1 (1 bit)\n\
+         tx_clk_active = 1 (1 bit)\n\
+         tx_clk_sel = 2 (2 bits)\n\
+         tx_clkm_div_num = 14 (8 bits)\n\
+         tx_bck_div_num = 1 (6 bits)\n\
+         tx_msb_shift = 1 (1 bit)\n\
+         tx_tdm_ws_width = 2 (7 bits)\n\
+         tx_bits_mod = 7 (5 bits)\n\
+         tx_tdm_chan_bits = 7 (5 bits)\n\
+         tx_half_sample_bits = 63 (6 bits)\n\
+         tx_mono = 0 (1 bit)\n\
+         tx_mono_fst_vld = 1 (1 bit)\n\
+         tx_stop_en = 1 (1 bit)\n\
+         tx_chan_equal = 1 (1 bit)\n\
+         tx_tdm_en = 1 (1 bit)\n\
+         tx_pdm_en = 0 (1 bit)\n\
+         tx_pcm_bypass = 1 (1 bit)\n\
+         tx_big_endian = 0 (1 bit)\n\
+         tx_bit_order = 0 (1 bit)\n\
+         tx_ws_idle_pol = 0 (1 bit)\n\
+         tx_chan_mod = 0 (3 bits)\n\
+         tx_tdm_tot_chan_num = 15 (4 bits)\n\
+         tx_tdm_chan0_en = 1 (1 bit)\n\
+         tx_tdm_chan1_en = 0 (1 bit)\n\
+         tx_tdm_chan2_en = 0 (1 bit)\n\
+         tx_tdm_chan3_en = 0 (1 bit)\n\
+         tx_tdm_chan4_en = 0 (1 bit)\n\
+         tx_tdm_chan5_en = 0 (1 bit)\n\
+         tx_tdm_chan6_en = 0 (1 bit)\n\
+         tx_tdm_chan7_en = 0 (1 bit)\n\
+         tx_tdm_chan8_en = 0 (1 bit)\n\
+         tx_tdm_chan9_en = 0 (1 bit)\n\
+         tx_tdm_chan10_en = 0 (1 bit)\n\
+         tx_tdm_chan11_en = 0 (1 bit)\n\
+         tx_tdm_chan12_en = 0 (1 bit)\n\
+         tx_tdm_chan13_en = 0 (1 bit)\n\
+         tx_tdm_chan14_en = 0 (1 bit)\n\
+         tx_tdm_chan15_en = 1 (1 bit)\n\
+         tx_tdm_skip_msk_en = 0 (1 bit)\n\
+         single_data = 0 (32 bits)\n\
+         puts of the receive unit, in order:\n\
+         rx_clkm_div_x = 4 (9 bits)\n\
+         rx_clkm_div_y = 61 (9 bits)\n\
+         rx_clkm_div_yn1 = 0 (1 bit)\n\
+         rx_clkm_div_z = 76 (9 bits)\n\
+         rx_clk_active = 1 (1 bit)\n\
+         rx_clk_sel = 2 (2 bits)\n\
+         rx_clkm_div_num = 14 (8 bits)\n\
+         mclk_sel = 1 (1 bit)\n\
+         rx_bck_div_num = 1 (6 bits)\n\
+         rx_msb_shift = 1 (1 bit)\n\
+         rx_tdm_ws_width = 2 (7 bits)\n\
+         rx_bits_mod = 7 (5 bits)\n\
+         rx_tdm_chan_bits = 7 (5 bits)\n\
+         rx_half_sample_bits = 63 (6 bits)\n\
+         rx_mono = 0 (1 bit)\n\
+         rx_mono_fst_vld = 1 (1 bit)\n\
+         rx_stop_mode = 2 (2 bits)\n\
+         rx_tdm_en = 1 (1 bit)\n\
+         rx_pdm_en = 0 (1 bit)\n\
+         rx_pcm_bypass = 1 (1 bit)\n\
+         rx_big_endian = 0 (1 bit)\n\
+         rx_bit_order = 0 (1 bit)\n\
+         rx_ws_idle_pol = 0 (1 bit)\n\
+         rx_tdm_tot_chan_num = 15 (4 bits)\n\
+         rx_tdm_pdm_chan0_en = 1 (1 bit)\n\
+         rx_tdm_pdm_chan1_en = 0 (1 bit)\n\
+         rx_tdm_pdm_chan2_en = 0 (1 bit)\n\
+         rx_tdm_pdm_chan3_en = 0 (1 bit)\n\
+         rx_tdm_pdm_chan4_en = 0 (1 bit)\n\
+         rx_tdm_pdm_chan5_en = 0 (1 bit)\n\
+         rx_tdm_pdm_chan6_en = 0 (1 bit)\n\
+         rx_tdm_pdm_chan7_en = 0 (1 bit)\n\
+         rx_tdm_chan8_en = 0 (1 bit)\n\
+         rx_tdm_chan9_en = 0 (1 bit)\n\
+         rx_tdm_chan10_en = 0 (1 bit)\n\
+         rx_tdm_chan11_en = 0 (1 bit)\n\
+         rx_tdm_chan12_en = 0 (1 bit)\n\
+         rx_tdm_chan13_en = 0 (1 bit)\n\
+         rx_tdm_chan14_en = 0 (1 bit)\n\
+         rx_tdm_chan15_en = 1 (1 bit)\n",
     ),
     // The old chip.
     (
@@ -60,7 +232,47 @@ const SHEETS: [(&str, Outcome, &str); 15] = [
          slot 1                               2\n\
          data ################################................................\n\
          ws   -_______________________________________________________________\n\
-         polarity: this chip stores none, and word select is drawn as written\n",
+         polarity: this chip stores none, and word select is drawn as written\n\
+         puts of the transmit unit, in order:\n\
+         tx_msb_shift = 0 (1 bit)\n\
+         tx_short_sync = 1 (1 bit)\n\
+         tx_fifo_mod = 3 (3 bits)\n\
+         tx_fifo_mod_force_en = 1 (1 bit)\n\
+         sigle_data = 0 (32 bits)\n\
+         tx_chan_mod = 3 (3 bits)\n\
+         puts of the receive unit, in order:\n\
+         rx_msb_shift = 0 (1 bit)\n\
+         rx_short_sync = 1 (1 bit)\n\
+         rx_fifo_mod = 3 (3 bits)\n\
+         rx_fifo_mod_force_en = 1 (1 bit)\n\
+         rx_chan_mod = 1 (2 bits)\n\
+         puts of the clock and of what both units share, in order:\n\
+         clkm_bit22 = 1 (1 bit)\n\
+         clka_ena = 0 (1 bit)\n\
+         clk_en = 1 (1 bit)\n\
+         clkm_div_num = 14 (8 bits)\n\
+         clkm_div_a = 29 (6 bits)\n\
+         clkm_div_b = 5 (6 bits)\n\
+         tx_bck_div_num = 4 (6 bits)\n\
+         rx_bck_div_num = 4 (6 bits)\n\
+         tx_bits_mod = 32 (6 bits)\n\
+         rx_bits_mod = 32 (6 bits)\n\
+         tx_slave_mod = 0 (1 bit)\n\
+         rx_slave_mod = 0 (1 bit)\n\
+         tx_msb_right = 1 (1 bit)\n\
+         rx_msb_right = 1 (1 bit)\n\
+         tx_right_first = 1 (1 bit)\n\
+         rx_right_first = 1 (1 bit)\n\
+         tx_mono = 0 (1 bit)\n\
+         rx_mono = 0 (1 bit)\n\
+         sig_loopback = 0 (1 bit)\n\
+         dscr_en = 1 (1 bit)\n\
+         tx_pcm_bypass = 1 (1 bit)\n\
+         rx_pcm_bypass = 1 (1 bit)\n\
+         fifo_force_pu = 1 (1 bit)\n\
+         fifo_force_pd = 0 (1 bit)\n\
+         camera_en = 0 (1 bit)\n\
+         lcd_en = 0 (1 bit)\n",
     ),
     // No slot is active.
     (

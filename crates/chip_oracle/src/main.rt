@@ -31,7 +31,6 @@
 
 mod before;
 mod calls;
-mod names;
 mod new_chip;
 mod old_chip;
 mod print;

@@ -1,10 +1,10 @@
 //! Prints what a call did and answered, as one line.
 
 use crate::calls::Answer;
-use crate::names::NAMES;
 use chips::I2sInterrupts;
 use fields::{Field, Side};
 use marks::Events;
+use names::FieldName;
 use recorded::{Note, Notes};
 use std::io;
 
@@ -31,8 +31,7 @@ fn print_events(rt: &HostRuntime, half: Side, events: Events) -> io::Result<()> 
 }
 
 fn print_put(rt: &HostRuntime, field: Field, number: u32) -> io::Result<()> {
-    let place = field.place();
-    print!(rt; "put {} {number}", NAMES[place])
+    print!(rt; "put {} {number}", FieldName(field))
 }
 
 fn print_note(rt: &HostRuntime, note: Note) -> io::Result<()> {

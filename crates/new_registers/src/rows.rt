@@ -19,8 +19,8 @@ fn slot(channel: u32, numbers: &UnitNumbers) -> u32
     u32::from((numbers.tdm_chan_en >> channel) % 2)
 }
 
-// The clock of the transmit half.
-pub(crate) fn tx_clock(numbers: &UnitNumbers) -> [(Field, u32); 9]
+/// The clock of the transmit half.
+pub fn tx_clock(numbers: &UnitNumbers) -> [(Field, u32); 9]
     ensures { result ≡ tx_clock numbers.now }
 {
     [
@@ -39,8 +39,8 @@ pub(crate) fn tx_clock(numbers: &UnitNumbers) -> [(Field, u32); 9]
     ]
 }
 
-// The rest of the set-up of the transmit half.
-pub(crate) fn tx_form(numbers: &UnitNumbers) -> [(Field, u32); 35]
+/// The rest of the set-up of the transmit half.
+pub fn tx_form(numbers: &UnitNumbers) -> [(Field, u32); 35]
     ensures { result ≡ tx_form numbers.now }
 {
     [
@@ -103,8 +103,8 @@ pub(crate) fn tx_form(numbers: &UnitNumbers) -> [(Field, u32); 35]
     ]
 }
 
-// The clock of the receive half.
-pub(crate) fn rx_clock(numbers: &UnitNumbers) -> [(Field, u32); 9]
+/// The clock of the receive half.
+pub fn rx_clock(numbers: &UnitNumbers) -> [(Field, u32); 9]
     ensures { result ≡ rx_clock numbers.now }
 {
     [
@@ -123,8 +123,8 @@ pub(crate) fn rx_clock(numbers: &UnitNumbers) -> [(Field, u32); 9]
     ]
 }
 
-// The rest of the set-up of the receive half.
-pub(crate) fn rx_form(numbers: &UnitNumbers) -> [(Field, u32); 31]
+/// The rest of the set-up of the receive half.
+pub fn rx_form(numbers: &UnitNumbers) -> [(Field, u32); 31]
     ensures { result ≡ rx_form numbers.now }
 {
     [

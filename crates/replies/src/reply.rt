@@ -8,6 +8,7 @@ ghost use Rattle.replies.specs.Outcomes.{outcome_by, outcome_of};
 use complaints::WrongText;
 use dividers::ConfigError;
 use drawings::{Esp32C3Text, Esp32Text, RefusalText};
+use listings::{Esp32C3Puts, Esp32Puts};
 use old_setups as esp32;
 use setups::esp32c3;
 use sheets::{Asked, read_sheet};
@@ -77,7 +78,7 @@ fn reply_esp32(
     Ok(match accept_esp32(config, reach) {
         Ok(setup) => Reply {
             outcome: Outcome::Accepted,
-            text: Esp32Text(&setup).to_string(heap)?,
+            text: format!(in heap; "{}{}", Esp32Text(&setup), Esp32Puts(&setup))?,
         },
         Err(refused) => Reply {
             outcome: Outcome::Refused(refused.error),
@@ -101,7 +102,7 @@ fn reply_esp32c3(
     Ok(match accept_esp32c3(config, reach) {
         Ok(setup) => Reply {
             outcome: Outcome::Accepted,
-            text: Esp32C3Text(&setup).to_string(heap)?,
+            text: format!(in heap; "{}{}", Esp32C3Text(&setup), Esp32C3Puts(&setup))?,
         },
         Err(refused) => Reply {
             outcome: Outcome::Refused(refused.error),

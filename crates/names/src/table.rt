@@ -1,7 +1,7 @@
 //! The names of the fields as the published driver writes them. Made by docs/field-names from crates/fields/specs/Table.antt.
 
 /// Each name at its field's place; a place that no field has is empty.
-pub const NAMES: [&str; 160] = [
+pub(crate) const NAMES: [&str; 160] = [
     "tx_bck_div_num",
     "tx_bits_mod",
     "tx_slave_mod",
