@@ -1,7 +1,8 @@
 //! What was done to a chip before the call.
 
-use crate::values::{FLAGS, at_place, read_interrupts};
+use crate::interrupts::read_interrupts;
 use chips::{I2sInterrupts, RegisterAccessPrivate};
+use coded::{at_place, read_flag};
 use marks::Draw;
 
 /// How far a half has come.
@@ -38,7 +39,7 @@ impl Before {
             draw: Draw {
                 late: *late,
                 wait: *wait,
-                hung: at_place(&FLAGS, *hung)?,
+                hung: read_flag(*hung)?,
             },
             enabled: read_interrupts(*enabled)?,
         })

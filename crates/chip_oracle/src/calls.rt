@@ -1,7 +1,8 @@
 //! Calls that every chip takes.
 
-use crate::values::{FLAGS, at_place, read_interrupts};
+use crate::interrupts::read_interrupts;
 use chips::{I2sInterrupts, RegisterAccessPrivate};
+use coded::read_flag;
 
 /// What a call answers.
 #[derive(Clone, Copy)]
@@ -29,7 +30,7 @@ fn plain<C: RegisterAccessPrivate>(chip: &mut C, name: &str, arguments: &[u32]) 
         ("reset_rx", []) => chip.reset_rx(),
         ("rx_start", [len]) => chip.rx_start(*len),
         ("enable_listen", [mask, on]) => {
-            chip.enable_listen(read_interrupts(*mask)?, at_place(&FLAGS, *on)?);
+            chip.enable_listen(read_interrupts(*mask)?, read_flag(*on)?);
         }
         ("listen", [mask]) => chip.listen(read_interrupts(*mask)?),
         ("unlisten", [mask]) => chip.unlisten(read_interrupts(*mask)?),

@@ -31,10 +31,10 @@
 
 mod before;
 mod calls;
+mod interrupts;
 mod new_chip;
 mod old_chip;
 mod print;
-mod values;
 
 use before::Before;
 use std::io;

@@ -3,55 +3,14 @@
 use crate::before::Before;
 use crate::calls::{Answer, call};
 use crate::print;
-use crate::values::{FLAGS, POLARITIES, at_place};
 use blocks::RegBlock;
 use chips::RegisterAccessPrivate;
-use dividers::Rate;
+use coded::{esp32_both, esp32_format, esp32_unit};
 use esp32::Esp32;
-use old_setups::{Channels, Config, DataFormat, UnitConfig, WsWidth};
+use old_setups::Config;
 use recorded::Recorded;
 use simulated::PacedBlock;
 use std::io;
-
-// The numbers of a unit.
-const WORDS: usize = 4;
-
-const CHANNELS: [Channels; 4] = [
-    Channels::Stereo,
-    Channels::Mono,
-    Channels::Left,
-    Channels::Right,
-];
-
-const WIDTHS: [WsWidth; 2] = [WsWidth::HalfFrame, WsWidth::Bit];
-
-const FORMATS: [DataFormat; 2] = [DataFormat::Data32Channel32, DataFormat::Data16Channel16];
-
-fn read_unit(numbers: &[u32]) -> Option<UnitConfig> {
-    let [channels, width, polarity, shift] = numbers else {
-        return None;
-    };
-    Some(UnitConfig {
-        channels: at_place(&CHANNELS, *channels)?,
-        ws_width: at_place(&WIDTHS, *width)?,
-        ws_polarity: at_place(&POLARITIES, *polarity)?,
-        msb_shift: at_place(&FLAGS, *shift)?,
-    })
-}
-
-// Both units; none where the numbers are not that.
-fn read_both(numbers: &[u32]) -> Option<Config> {
-    let [rate, format, units @ ..] = numbers else {
-        return None;
-    };
-    let (tx, rx) = units.split_at_checked(WORDS)?;
-    Some(Config {
-        tx_config: read_unit(tx)?,
-        rx_config: read_unit(rx)?,
-        sample_rate: Rate::from_hz(*rate),
-        data_format: at_place(&FORMATS, *format)?,
-    })
-}
 
 // Takes a set-up of both units over, or says what refuses it.
 fn configure<B: RegBlock>(chip: &mut Esp32<B>, config: &Config) -> Answer {
@@ -73,7 +32,7 @@ fn configure_unit<B: RegBlock>(
     let [format, unit @ ..] = arguments else {
         return None;
     };
-    let (unit, format) = (read_unit(unit)?, at_place(&FORMATS, *format)?);
+    let (unit, format) = (esp32_unit(unit)?, esp32_format(*format)?);
     Some(match Esp32::<B>::check(&unit, format) {
         Ok(setup) => {
             if transmit {
@@ -90,7 +49,7 @@ fn configure_unit<B: RegBlock>(
 // Makes a call; none where the chip has none like that.
 fn called<B: RegBlock>(chip: &mut Esp32<B>, name: &str, arguments: &[u32]) -> Option<Answer> {
     match name {
-        "configure" => Some(configure(chip, &read_both(arguments)?)),
+        "configure" => Some(configure(chip, &esp32_both(arguments)?)),
         "configure_tx" => configure_unit(chip, arguments, true),
         "configure_rx" => configure_unit(chip, arguments, false),
         _ => call(chip, name, arguments),

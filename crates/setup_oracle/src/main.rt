@@ -13,8 +13,8 @@
 
 mod new_chip;
 mod old_chip;
-mod values;
 
+use coded::{esp32_both, esp32c3_unit};
 use std::io;
 use std::process::ExitCode;
 
@@ -35,12 +35,20 @@ fn answer(rt: &HostRuntime, line: &str) -> io::Result<bool> {
     let Some(numbers) = read_numbers(rt, line)? else {
         return Ok(false);
     };
-    if let Some(unit) = new_chip::read(numbers.as_slice()) {
-        new_chip::print(rt, &unit)?;
-    } else if let Some(both) = old_chip::read(numbers.as_slice()) {
-        old_chip::print(rt, &both)?;
-    } else {
-        return Ok(false);
+    match numbers.as_slice() {
+        [1, row @ ..] => {
+            let Some(unit) = esp32c3_unit(row) else {
+                return Ok(false);
+            };
+            new_chip::print(rt, &unit)?;
+        }
+        [0, row @ ..] => {
+            let Some(both) = esp32_both(row) else {
+                return Ok(false);
+            };
+            old_chip::print(rt, &both)?;
+        }
+        _ => return Ok(false),
     }
     Ok(true)
 }
