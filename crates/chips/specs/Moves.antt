@@ -42,11 +42,11 @@ pub record Whole : Type 0 where
   pub rx : Half RxField → Half RxField
   pub common : (CommonField → ℕ) → (CommonField → ℕ)
 
-abbrev polls_for : Option Awaited → ℕ → {F : Type 0} → Half F → Option ℕ
+abbrev pub polls_for : Option Awaited → ℕ → {F : Type 0} → Half F → Option ℕ
 polls_for None n h = Some 0
 polls_for (Some a) n h = first_found a n 0 h.marks
 
-abbrev polled_for : Option Awaited → ℕ → {F : Type 0} → Half F → Half F
+abbrev pub polled_for : Option Awaited → ℕ → {F : Type 0} → Half F → Half F
 polled_for None n h = h
 polled_for (Some a) n h = moved (after_polls a n) h
 
@@ -59,7 +59,7 @@ started m n h = polled_for m.busy n h
 abbrev pub wait_polls : {F U : Type 0} → Moves F U → ℕ → Half F → Option ℕ
 wait_polls m n h = first_found m.done n 0 h.marks
 
-abbrev ended_if : {F U : Type 0} → Moves F U → Option ℕ → Half F → Half F
+abbrev pub ended_if : {F U : Type 0} → Moves F U → Option ℕ → Half F → Half F
 ended_if m (Some p) h = m.ends h
 ended_if m None h = h
 

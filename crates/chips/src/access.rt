@@ -1,5 +1,5 @@
 //! What a chip promises to the units above it.
-ghost use Rattle.std.specs.Prelude.{◌≡◌, ◌≤◌, ℕ, None, Option, true, false};
+ghost use Rattle.std.specs.Prelude.{◌≡◌, ◌≤◌, ℕ, IfSome, None, Option, true, false};
 ghost use Rattle.dividers.specs.declared.ConfigError.{ConfigError};
 ghost use Rattle.fields.specs.declared.CommonField.{CommonField};
 ghost use Rattle.fields.specs.declared.RxField.{RxField};
@@ -17,6 +17,7 @@ use crate::interrupts::I2sInterrupts;
 use blocks::RegBlock;
 use dividers::ConfigError;
 use fields::Side;
+use marks::Events;
 
 /// A chip's driver over its block. Each function makes the puts, clears and polls of the published one of its name, in that
 /// order; where that waits for ever, it takes an allowance of polls.
@@ -92,6 +93,10 @@ pub trait RegisterAccessPrivate: RegBlock {
     /// The format that the units keep.
     fn data_format(opening: &Self::Opening) -> Self::DataFormat
         ensures { result ≡ keeps (from_open opening.now) };
+
+    /// The events that the chip has, of either half.
+    fn own_events() -> Events
+        ensures { result ≡ own_events };
 
     /// Turns the named events on or off.
     fn enable_listen(&mut self, interrupts: I2sInterrupts, enable: bool)
@@ -172,6 +177,7 @@ pub trait RegisterAccessPrivate: RegBlock {
     /// Starts the transmit half; the polls made, or none where it was never found busy within the allowance.
     fn tx_start(&mut self, allowance: u16) -> Option<u32>
         ensures answer { result ≡ start_polls tx_moves allowance (tx_moves.starts 0 (Self.tx self.old)) }
+        ensures within { IfSome result (λ polls. polls ≤ allowance) }
         ensures half { OnTx Self.tx Self.rx Self.common (λ h. started tx_moves allowance (tx_moves.starts 0 h)) self.old self.new }
         ensures dividers { Keeps Self.tx Self.rx Self.common tx_divider rx_divider self.old self.new };
 
@@ -183,6 +189,7 @@ pub trait RegisterAccessPrivate: RegBlock {
     /// Polls until the transmit half is finished, and then stops it; the polls made, or none where the allowance is used up.
     fn wait_for_tx_done(&mut self, allowance: u16) -> Option<u32>
         ensures answer { result ≡ wait_polls tx_moves allowance (Self.tx self.old) }
+        ensures within { IfSome result (λ polls. polls ≤ allowance) }
         ensures half { OnTx Self.tx Self.rx Self.common (waited tx_moves allowance) self.old self.new }
         ensures dividers { Keeps Self.tx Self.rx Self.common tx_divider rx_divider self.old self.new };
 
@@ -200,6 +207,7 @@ pub trait RegisterAccessPrivate: RegBlock {
     /// is used up.
     fn wait_for_rx_done(&mut self, allowance: u16) -> Option<u32>
         ensures answer { result ≡ wait_polls rx_moves allowance (Self.rx self.old) }
+        ensures within { IfSome result (λ polls. polls ≤ allowance) }
         ensures half { OnRx Self.tx Self.rx Self.common (waited rx_moves allowance) self.old self.new }
         ensures dividers { Keeps Self.tx Self.rx Self.common tx_divider rx_divider self.old self.new };
 

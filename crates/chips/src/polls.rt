@@ -1,5 +1,5 @@
 //! Polls up to an allowance, where the published driver waits for ever.
-ghost use Rattle.std.specs.Prelude.{◌≡◌};
+ghost use Rattle.std.specs.Prelude.{◌≡◌, ◌≤◌, IfSome};
 ghost use Rattle.fields.specs.declared.Side.TheVariants.{Receive, Transmit};
 ghost use Rattle.marks.specs.Marks.{after_rx_poll, after_tx_poll};
 ghost use Rattle.blocks.specs.Half.{marks_on, moved, upon};
@@ -26,6 +26,7 @@ pub enum Awaited {
 #[tactic(auto, using(crate::proofs::PollLaws::polls_find, crate::proofs::PollLaws::busy_is_up, crate::proofs::PollLaws::no_wait_no_busy))]
 pub fn poll_until<B: RegBlock>(block: &mut B, awaited: Awaited, allowance: u16) -> Option<u32>
     ensures answer { result ≡ first_found awaited allowance 0 (marks_on (side_of awaited) (B.tx block.old) (B.rx block.old)) }
+    ensures within { IfSome result (λ polls. polls ≤ allowance) }
     ensures tx { B.tx block.new ≡ moved (upon Transmit (side_of awaited) (after_polls awaited allowance)) (B.tx block.old) }
     ensures rx { B.rx block.new ≡ moved (upon Receive (side_of awaited) (after_polls awaited allowance)) (B.rx block.old) }
     ensures common { B.common block.new ≡ B.common block.old }

@@ -3,7 +3,7 @@
 --     tx_divides, rx_divides  nothing that is done to a half changes it
 --     tx_opens, rx_opens      an opening leaves what the definitions store for its one rate
 --     tx_settles, rx_settles  so do its puts
-use Rattle.std.proofs.Common.{◌≡◌, ℕ, ◌%◌, ◌<◌, Some, None, Option, refl, ap, ◌∙◌, sym, subst, List, [], ◌∷◌}
+use Rattle.std.proofs.Common.{◌≡◌, ℕ, Some, None, Option, refl, ap, ◌∙◌, sym, subst, [], ◌∷◌}
 use Rattle.std.proofs.Math.Nat.{mod-eq_of_lt}
 use Rattle.std.proofs.lemmas.Option.{none-some}
 use Rattle.dividers.specs.declared.ConfigError.{ConfigError}
@@ -11,7 +11,6 @@ use Rattle.dividers.specs.declared.DividerRange.{DividerRange}
 use Rattle.dividers.specs.Answers.{eight_bit_range}
 use Rattle.fields.specs.declared.CommonField.{CommonField}
 use Rattle.fields.specs.declared.RxField.{RxField}
-use Rattle.fields.specs.declared.Side.{Side}
 use Rattle.fields.specs.declared.TxField.{TxField}
 use Rattle.blocks.specs.Half.{Half}
 use Rattle.old_setups.specs.declared.ClockNumbers.{ClockNumbers}
@@ -21,7 +20,7 @@ use Rattle.old_setups.specs.Configs.{clock_numbers, refusal_of}
 use Rattle.old_setups.specs.Fit.{ClockNumbersFit}
 use Rattle.old_setups.specs.Units.{numbers_of}
 use Rattle.old_setups.proofs.Fit.{accepted_fit}
-use Rattle.chips.specs.Dividers.{Divider, Divides}
+use Rattle.chips.specs.Dividers.{Divides}
 use Rattle.chips.specs.Puts.{puts_common, puts_rx, puts_tx}
 use Rattle.esp32.specs.Chip.{old_at_open, old_opens, old_rx, old_rx_divider, old_tx, old_tx_divider, on_transmit, open_numbers, open_refusal, open_refused, stored, unit_refusal}
 use Rattle.old_registers.specs.Rows.{opening}

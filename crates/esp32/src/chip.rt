@@ -141,6 +141,10 @@ impl<B: RegBlock> RegisterAccessPrivate for Esp32<B> {
         opening.config.data_format
     }
 
+    fn own_events() -> Events {
+        OWN
+    }
+
     fn enable_listen(&mut self, interrupts: I2sInterrupts, enable: bool) {
         enable_events(&mut self.block, interrupts, OWN, enable);
     }

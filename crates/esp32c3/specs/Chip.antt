@@ -1,5 +1,5 @@
 -- The new chip, as the units know it. Assumes nothing.
-use Rattle.std.specs.Prelude.{◌≡◌, ℕ, true, false, List, [], ◌∷◌, Some, None, Option}
+use Rattle.std.specs.Prelude.{ℕ, [], ◌∷◌, Some, None, Option}
 use Rattle.dividers.specs.declared.ConfigError.{ConfigError}
 use Rattle.dividers.specs.Answers.{eight_bit_range}
 use Rattle.fields.specs.declared.CommonField.{CommonField}

@@ -2,7 +2,7 @@
 --     tx_divides, rx_divides  of all that is done to a half, only an accepted set-up changes it, and to what the definitions store
 --     tx_opens, rx_opens      an opening leaves those of its set-up
 --     tx_settles, rx_settles  the puts of a set-up that passes leave what the definitions store for it
-use Rattle.std.proofs.Common.{◌≡◌, ℕ, ◌%◌, ◌<◌, Bool, true, false, Some, None, Option, refl, ap, ◌∙◌, sym, List, [], ◌∷◌}
+use Rattle.std.proofs.Common.{◌≡◌, ℕ, ◌%◌, Bool, true, false, Some, None, Option, refl, ap, ◌∙◌, sym, [], ◌∷◌}
 use Rattle.std.proofs.Math.Nat.{mod-eq_of_lt}
 use Rattle.std.proofs.lemmas.Option.{none-some}
 use Rattle.dividers.specs.declared.ConfigError.{ConfigError}
@@ -19,7 +19,7 @@ use Rattle.setups.specs.declared.esp32c3.UnitNumbers.{UnitNumbers}
 use Rattle.setups.specs.Check.{numbers_of, refusal_of}
 use Rattle.setups.specs.Fit.{NumbersFit}
 use Rattle.setups.proofs.Fit.{accepted_fit}
-use Rattle.chips.specs.Dividers.{Divider, Divides}
+use Rattle.chips.specs.Dividers.{Divides}
 use Rattle.chips.specs.Puts.{puts_rx, puts_tx}
 use Rattle.esp32c3.specs.Chip.{new_divider, new_open_refusal, new_opens, new_refusal, new_rx, new_rx_at_open, new_rx_divider, new_tx, new_tx_at_open, new_tx_divider, on_side, stored, unit_numbers, unit_refusal}
 use Rattle.new_registers.specs.Rows.{bit, rx_set, tx_set}

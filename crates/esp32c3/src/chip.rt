@@ -35,6 +35,8 @@ pub struct Esp32C3<B> {
 pub struct Opening {
     tx: UnitSetup,
     rx: UnitSetup,
+    ghost tx_keeps: { tx.format ≡ tx.config.data_format },
+    ghost rx_keeps: { rx.format ≡ tx.config.data_format },
 }
 
 impl<B: RegBlock> RegBlock for Esp32C3<B> {
@@ -142,13 +144,23 @@ impl<B: RegBlock> RegisterAccessPrivate for Esp32C3<B> {
 
     fn check_open(config: &Config) -> Result<Opening, (Side, ConfigError)> {
         let format = config.tx_config.data_format;
-        let tx = Self::check(&config.tx_config, format).map_err(|error| (Side::Transmit, error))?;
-        let rx = Self::check(&config.rx_config, format).map_err(|error| (Side::Receive, error))?;
+        let tx = match UnitSetup::of(&config.tx_config, format) {
+            Ok(tx) => tx,
+            Err(error) => return Err((Side::Transmit, error)),
+        };
+        let rx = match UnitSetup::of(&config.rx_config, format) {
+            Ok(rx) => rx,
+            Err(error) => return Err((Side::Receive, error)),
+        };
         Ok(Opening { tx, rx })
     }
 
     fn data_format(opening: &Opening) -> DataFormat {
-        opening.tx.config.data_format
+        opening.tx.format
+    }
+
+    fn own_events() -> Events {
+        OWN
     }
 
     fn enable_listen(&mut self, interrupts: I2sInterrupts, enable: bool) {

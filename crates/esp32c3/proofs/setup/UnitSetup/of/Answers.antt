@@ -1,6 +1,5 @@
-use Rattle.std.proofs.Common.{◌≡◌, None, Some, ap, sym, ◌∙◌, rules}
-use Rattle.setups.specs.Check.{numbers_of, refusal_of}
-use Rattle.esp32c3.specs.Chip.{unit_numbers, unit_refusal}
+use Rattle.std.proofs.Common.{sym, ◌∙◌, rules}
+use Rattle.setups.specs.Check.{numbers_of}
 use Rattle.esp32c3.specs.Laws.{numbers_at, refusal_at}
 use Rattle.esp32c3.proofs.setup.UnitSetup.of.Goals as goal
 
