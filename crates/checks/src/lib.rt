@@ -1,11 +1,13 @@
-//! Tests on examples: of the dividers, the plans and the answers here, of the blocks in `block_tests`, of set-ups in `setup_tests`,
-//! of sheets in `sheet_tests`.
+//! Tests on examples: of the dividers, the plans and the answers here, of the blocks in `block_tests`, of the chips in `chip_tests`, of set-ups
+//! in `setup_tests`, of sheets in `sheet_tests`, of refusals in `error_tests`.
 #![tactic(auto)]
 
 #[cfg(test)]
 mod block_tests;
 #[cfg(test)]
 mod chip_tests;
+#[cfg(test)]
+mod error_tests;
 #[cfg(test)]
 mod handed;
 #[cfg(test)]

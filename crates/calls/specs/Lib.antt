@@ -1,0 +1,4 @@
+pub mod Accepted
+pub mod Rules
+pub mod Runs
+pub mod Steps
