@@ -13,7 +13,7 @@ const HELP: &str =
                     the rate in hertz, the slots of a frame and the data bits of a slot;
                     blank lines and lines that begin with # pass
 i2s setup [FILE]    check one unit's set-up, a line KEY VALUE for each key of FILE, or of standard input where there is none or a -,
-                    and draw one frame of it; docs/RULES.md says which keys and values there are
+                    draw one frame of it, and list each field that it puts; docs/RULES.md says which keys and values there are
 i2s help            say this
 ";
 
