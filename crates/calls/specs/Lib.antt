@@ -1,4 +1,7 @@
 pub mod Accepted
+pub mod Agree
+pub mod Laws
+pub mod Opening
 pub mod Rules
 pub mod Runs
 pub mod Steps
