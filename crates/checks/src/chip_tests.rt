@@ -5,7 +5,7 @@ use dividers::Rate;
 use esp32::Esp32;
 use esp32c3::Esp32C3;
 use fields::{CommonField, Field, RxField, Side, TxField};
-use marks::Draw;
+use marks::{Draw, Events};
 use old_setups as old;
 use setups::esp32c3::{DataFormat, UnitConfig};
 use simulated::PacedBlock;
@@ -130,6 +130,73 @@ fn events_are_the_chips_own(rt: HostRuntime) {
     new.clear_interrupts(ALL);
     new.unlisten(ALL);
     assert!(rt; new.interrupts() == NONE && !new.enabled(Side::Receive).hung);
+}
+
+// Each of the 16 masks turns on those of its events that the chip has, and turning them off leaves none.
+#[test]
+fn every_mask_is_taken(rt: HostRuntime) {
+    for mask in 0..16u32 {
+        let named = I2sInterrupts {
+            rx_hung: mask % 2 == 1,
+            tx_hung: mask / 2 % 2 == 1,
+            rx_done: mask / 4 % 2 == 1,
+            tx_done: mask / 8 == 1,
+        };
+        let (mut new, mut old) = (new_chip(DRAWS), old_chip(DRAWS));
+        new.listen(named);
+        old.listen(named);
+        let (tx, rx) = (new.enabled(Side::Transmit), new.enabled(Side::Receive));
+        assert!(rt;
+            tx.hung == named.tx_hung && tx.done == named.tx_done && !tx.link_done && !tx.eof
+        );
+        assert!(rt;
+            rx.hung == named.rx_hung && rx.done == named.rx_done && !rx.link_done && !rx.eof
+        );
+        let (tx, rx) = (old.enabled(Side::Transmit), old.enabled(Side::Receive));
+        assert!(rt; tx.hung == named.tx_hung && !tx.done && !tx.link_done && !tx.eof);
+        assert!(rt; rx.hung == named.rx_hung && !rx.done && !rx.link_done && !rx.eof);
+        new.unlisten(named);
+        old.unlisten(named);
+        assert!(rt; new.enabled(Side::Transmit) == Events::none());
+        assert!(rt; old.enabled(Side::Receive) == Events::none());
+    }
+}
+
+// Any length is put, cut to the field's width: 12 bits of the new chip, 32 of the old one.
+#[test]
+fn any_length_starts_a_receive(rt: HostRuntime) {
+    for (len, of_new, of_old) in [
+        (0, 0, 0),
+        (1, 0, 0),
+        (3, 2, 0),
+        (4_097, 0, 1_024),
+        (8_192, 4_095, 2_048),
+        (u32::MAX, 4_094, 1_073_741_823),
+    ] {
+        let (mut new, mut old) = (new_chip(DRAWS), old_chip(DRAWS));
+        new.rx_start(len);
+        old.rx_start(len);
+        assert_eq!(rt; new.get(Field::Rx(RxField::NewRxEofNum)), of_new);
+        assert_eq!(rt; old.get(Field::Rx(RxField::OldRxEofNum)), of_old);
+        assert!(rt; new.block.marks(Side::Receive).busy && old.block.marks(Side::Receive).busy);
+    }
+}
+
+// With the largest draws no allowance is enough, and each poll is made.
+#[test]
+fn the_largest_draws_time_out(rt: HostRuntime) {
+    let most = Draw {
+        late: u32::MAX,
+        wait: u32::MAX,
+        hung: true,
+    };
+    let (mut new, mut old) = (new_chip(most), old_chip(most));
+    assert!(rt; old.tx_start(65_535) == None);
+    assert_eq!(rt; old.block.marks(Side::Transmit).late, u32::MAX - 65_535);
+    new.rx_start(4);
+    assert!(rt; new.wait_for_rx_done(1) == None && new.wait_for_rx_done(0) == None);
+    assert!(rt; new.wait_for_rx_done(65_535) == None);
+    assert_eq!(rt; new.block.marks(Side::Receive).wait, u32::MAX - 65_536);
 }
 
 // A set-up that is taken over puts its divider, and the other unit's stays.
