@@ -25,7 +25,7 @@ pub(crate) fn apply_tx<C: RegisterAccessPrivate>(
     Ok(())
 }
 
-// Starts a transfer of a length that the unit takes.
+// Starts a transfer, if the unit takes its length.
 pub(crate) fn start_tx<C: RegisterAccessPrivate>(
     chip: &mut C,
     limit: u16,
