@@ -1,4 +1,5 @@
 pub mod Dividers
+pub mod Handles
 pub mod Interrupts
 pub mod Moves
 pub mod PollLaws

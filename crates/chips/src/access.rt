@@ -1,5 +1,5 @@
 //! What a chip promises to the units above it.
-ghost use Rattle.std.specs.Prelude.{◌≡◌, ◌≤◌, ℕ, IfSome, None, Option, true, false};
+ghost use Rattle.std.specs.Prelude.{◌≡◌, ◌≤◌, ℕ, Decides, IfSome, None, Option, true, false};
 ghost use Rattle.dividers.specs.declared.ConfigError.{ConfigError};
 ghost use Rattle.fields.specs.declared.CommonField.{CommonField};
 ghost use Rattle.fields.specs.declared.RxField.{RxField};
@@ -10,6 +10,7 @@ ghost use Rattle.marks.specs.Events.{intersection};
 ghost use Rattle.marks.specs.Marks.{cleared, enabling};
 ghost use Rattle.blocks.specs.Half.{Half, moved};
 ghost use Rattle.chips.specs.Dividers.{Divider, Divides, Keeps, settled};
+ghost use Rattle.chips.specs.Handles.{Halts, Handles};
 ghost use Rattle.chips.specs.Interrupts.{interrupts_of, rx_named, tx_named};
 ghost use Rattle.chips.specs.Moves.{Checked, Moves, OnRx, OnTx, Opens, Whole, start_polls, started, wait_polls, waited};
 
@@ -23,7 +24,7 @@ use marks::Events;
 /// order; where that waits for ever, it takes an allowance of polls.
 pub trait RegisterAccessPrivate: RegBlock {
     /// A unit's set-up as it is written.
-    type UnitConfig;
+    type UnitConfig: Drop;
 
     /// The format that the units keep since their opening.
     type DataFormat: Copy;
@@ -32,7 +33,7 @@ pub trait RegisterAccessPrivate: RegBlock {
     type Setup: Drop;
 
     /// The set-up of both units as it is written.
-    type Config;
+    type Config: Drop;
 
     /// The set-up of both units that passed.
     type Opening: Drop;
@@ -65,6 +66,9 @@ pub trait RegisterAccessPrivate: RegBlock {
 
     ghost updates: { Whole };
 
+    // Where a start of the transmit unit is put.
+    ghost tx_start_field: { TxField };
+
     // The events that the chip has.
     ghost own_events: { Events };
 
@@ -85,6 +89,10 @@ pub trait RegisterAccessPrivate: RegBlock {
         format: Self::DataFormat,
     ) -> Result<Self::Setup, ConfigError>
         ensures { Checked from refusal (config.now, format) result };
+
+    /// Whether two set-ups of a unit are the same.
+    fn same_config(a: &Self::UnitConfig, b: &Self::UnitConfig) -> bool
+        ensures { Decides result (a.now ≡ b.now) };
 
     /// The set-up of both units, if it passes, the transmit unit first.
     fn check_open(config: &Self::Config) -> Result<Self::Opening, (Side, ConfigError)>
@@ -211,7 +219,7 @@ pub trait RegisterAccessPrivate: RegBlock {
         ensures half { OnRx Self.tx Self.rx Self.common (waited rx_moves allowance) self.old self.new }
         ensures dividers { Keeps Self.tx Self.rx Self.common tx_divider rx_divider self.old self.new };
 
-    // What is known of every chip: its largest denominator is one for which each fraction is nearest; of all that is done to a half, only an accepted set-up changes its divider; and an opening leaves those of its set-up.
+    // What is known of every chip: its largest denominator is one for which each fraction is nearest; of all that is done to a half, only an accepted set-up changes its divider; an opening leaves those of its set-up; and what resets, starts and stops do to marks and draws.
     ghost max_least: { 3 ≤ MAX };
 
     ghost max_most: { MAX ≤ 1000 };
@@ -223,4 +231,10 @@ pub trait RegisterAccessPrivate: RegBlock {
     ghost tx_opens: { (o : Self.Config) (h : Half TxField) (c : CommonField → ℕ) → open_refusal o ≡ None → tx_divider (opens.tx o h).fields (opens.common o c) ≡ tx_at_open o };
 
     ghost rx_opens: { (o : Self.Config) (h : Half RxField) (c : CommonField → ℕ) → open_refusal o ≡ None → rx_divider (opens.rx o h).fields (opens.common o c) ≡ rx_at_open o };
+
+    ghost tx_handles: { Handles tx_moves };
+
+    ghost rx_handles: { Handles rx_moves };
+
+    ghost tx_halts: { Halts tx_moves tx_start_field };
 }

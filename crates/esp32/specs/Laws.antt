@@ -1,8 +1,10 @@
--- What becomes of the divider in the old chip's fields. Assumes nothing.
+-- What becomes of the divider, and of marks and draws, in the old chip's fields. Assumes nothing.
 --     refused_at, numbers_at  what the definitions of an opening stand for
 --     tx_divides, rx_divides  nothing that is done to a half changes it
 --     tx_opens, rx_opens      an opening leaves what the definitions store for its one rate
 --     tx_settles, rx_settles  so do its puts
+--     tx_handles, rx_handles  a reset ends what the half was busy with, and a start draws
+--     tx_halts                a stop puts 0 into start, and touches nothing else
 use Rattle.std.proofs.Common.{◌≡◌, ℕ, Some, None, Option, refl, ap, ◌∙◌, sym, subst, [], ◌∷◌}
 use Rattle.std.proofs.Math.Nat.{mod-eq_of_lt}
 use Rattle.std.proofs.lemmas.Option.{none-some}
@@ -12,6 +14,7 @@ use Rattle.dividers.specs.Answers.{eight_bit_range}
 use Rattle.fields.specs.declared.CommonField.{CommonField}
 use Rattle.fields.specs.declared.RxField.{RxField}
 use Rattle.fields.specs.declared.TxField.{TxField}
+use Rattle.fields.specs.declared.TxField.TheVariants.{OldTxStart}
 use Rattle.blocks.specs.Half.{Half}
 use Rattle.old_setups.specs.declared.ClockNumbers.{ClockNumbers}
 use Rattle.old_setups.specs.declared.Config.{Config}
@@ -21,6 +24,7 @@ use Rattle.old_setups.specs.Fit.{ClockNumbersFit}
 use Rattle.old_setups.specs.Units.{numbers_of}
 use Rattle.old_setups.proofs.Fit.{accepted_fit}
 use Rattle.chips.specs.Dividers.{Divides}
+use Rattle.chips.specs.Handles.{Halts, Handles}
 use Rattle.chips.specs.Puts.{puts_common, puts_rx, puts_tx}
 use Rattle.esp32.specs.Chip.{old_at_open, old_opens, old_rx, old_rx_divider, old_tx, old_tx_divider, on_transmit, open_numbers, open_refusal, open_refused, stored, unit_refusal}
 use Rattle.old_registers.specs.Rows.{opening}
@@ -80,3 +84,12 @@ pub rx_settles : (t r : UnitNumbers) (n : ClockNumbers) (o : Config) (h g : Half
     → g ≡ puts_rx (opening t r n) h → d ≡ puts_common (opening t r n) c → old_rx_divider g.fields d ≡ old_at_open o
 rx_settles t r n o h g c d none numbers put shared =
     (λ i. old_rx_divider (put i).fields (shared i)) ∙ rx_stores t r n h c (subst ClockNumbersFit (sym numbers) (open_fits o none)) ∙ ap stored numbers
+
+pub tx_handles : Handles old_tx
+tx_handles = record { reset_busy = λ h. refl; reset_stale = λ h. refl; reset_draws = λ h k. refl; start_busy = λ n h. refl; start_draws = λ n h k. refl }
+
+pub rx_handles : Handles old_rx
+rx_handles = record { reset_busy = λ h. refl; reset_stale = λ h. refl; reset_draws = λ h k. refl; start_busy = λ n h. refl; start_draws = λ n h k. refl }
+
+pub tx_halts : Halts old_tx OldTxStart
+tx_halts = record { stopped = λ h. refl; marks = λ h. refl; draws = λ h k. refl }

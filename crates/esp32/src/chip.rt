@@ -1,8 +1,10 @@
 //! The old chip over a block.
 ghost use Rattle.std.proofs.Common.{rules};
+ghost use Rattle.std.specs.Cmp.Rules.{comparing};
 ghost use Rattle.std.specs.Prelude.{◌≡◌, None};
+ghost use Rattle.fields.specs.declared.TxField.TheVariants.{OldTxStart};
 ghost use Rattle.esp32.specs.Chip.{old_at_open, old_masters, old_opens, old_own_events, old_rx, old_rx_divider, old_tx, old_tx_divider, old_updates, open_refusal, unit_refusal};
-ghost use Rattle.esp32.specs.Laws.{rx_divides, rx_opens, tx_divides, tx_opens};
+ghost use Rattle.esp32.specs.Laws.{rx_divides, rx_handles, rx_opens, tx_divides, tx_halts, tx_handles, tx_opens};
 
 use crate::setup::{Opening, UnitSetup};
 use blocks::RegBlock;
@@ -105,6 +107,8 @@ impl<B: RegBlock> RegisterAccessPrivate for Esp32<B> {
 
     ghost updates = { old_updates };
 
+    ghost tx_start_field = { OldTxStart };
+
     ghost own_events = { old_own_events };
 
     ghost tx_divider = { old_tx_divider };
@@ -129,8 +133,18 @@ impl<B: RegBlock> RegisterAccessPrivate for Esp32<B> {
 
     ghost rx_opens = { rx_opens };
 
+    ghost tx_handles = { tx_handles };
+
+    ghost rx_handles = { rx_handles };
+
+    ghost tx_halts = { tx_halts };
+
     fn check(config: &UnitConfig, format: DataFormat) -> Result<UnitSetup, ConfigError> {
         Ok(UnitSetup::of(config, format))
+    }
+
+    fn same_config(a: &UnitConfig, b: &UnitConfig) -> bool {
+        a == b
     }
 
     fn check_open(config: &Config) -> Result<Opening, (Side, ConfigError)> {

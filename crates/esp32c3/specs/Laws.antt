@@ -1,7 +1,9 @@
--- What becomes of the divider in the new chip's fields. Assumes nothing.
+-- What becomes of the divider, and of marks and draws, in the new chip's fields. Assumes nothing.
 --     tx_divides, rx_divides  of all that is done to a half, only an accepted set-up changes it, and to what the definitions store
 --     tx_opens, rx_opens      an opening leaves those of its set-up
 --     tx_settles, rx_settles  the puts of a set-up that passes leave what the definitions store for it
+--     tx_handles, rx_handles  a reset ends what the half was busy with, and a start draws
+--     tx_halts                a stop puts 0 into start, and touches nothing else
 use Rattle.std.proofs.Common.{◌≡◌, ℕ, ◌%◌, Bool, true, false, Some, None, Option, refl, ap, ◌∙◌, sym, [], ◌∷◌}
 use Rattle.std.proofs.Math.Nat.{mod-eq_of_lt}
 use Rattle.std.proofs.lemmas.Option.{none-some}
@@ -12,6 +14,7 @@ use Rattle.fields.specs.declared.CommonField.{CommonField}
 use Rattle.fields.specs.declared.RxField.{RxField}
 use Rattle.fields.specs.declared.Side.{Side}
 use Rattle.fields.specs.declared.TxField.{TxField}
+use Rattle.fields.specs.declared.TxField.TheVariants.{NewTxStart}
 use Rattle.blocks.specs.Half.{Half}
 use Rattle.setups.specs.declared.esp32c3.Config.{Config}
 use Rattle.setups.specs.declared.esp32c3.UnitConfig.{UnitConfig}
@@ -20,6 +23,7 @@ use Rattle.setups.specs.Check.{numbers_of, refusal_of}
 use Rattle.setups.specs.Fit.{NumbersFit}
 use Rattle.setups.proofs.Fit.{accepted_fit}
 use Rattle.chips.specs.Dividers.{Divides}
+use Rattle.chips.specs.Handles.{Halts, Handles}
 use Rattle.chips.specs.Puts.{puts_rx, puts_tx}
 use Rattle.esp32c3.specs.Chip.{new_divider, new_open_refusal, new_opens, new_refusal, new_rx, new_rx_at_open, new_rx_divider, new_tx, new_tx_at_open, new_tx_divider, on_side, stored, unit_numbers, unit_refusal}
 use Rattle.new_registers.specs.Rows.{bit, rx_set, tx_set}
@@ -95,3 +99,12 @@ pub rx_settles : (u : UnitConfig) (n : UnitNumbers) (h g : Half RxField) (c : Co
     → new_rx_divider g.fields c ≡ stored (unit_numbers u)
 rx_settles u n h g c none numbers put =
     ap (λ k. new_rx_divider k.fields c) (put ∙ ap (λ m. puts_rx (rx_set m) h) numbers) ∙ rx_stores (unit_numbers u) h c (unit_fits u none)
+
+pub tx_handles : Handles new_tx
+tx_handles = record { reset_busy = λ h. refl; reset_stale = λ h. refl; reset_draws = λ h k. refl; start_busy = λ n h. refl; start_draws = λ n h k. refl }
+
+pub rx_handles : Handles new_rx
+rx_handles = record { reset_busy = λ h. refl; reset_stale = λ h. refl; reset_draws = λ h k. refl; start_busy = λ n h. refl; start_draws = λ n h k. refl }
+
+pub tx_halts : Halts new_tx NewTxStart
+tx_halts = record { stopped = λ h. refl; marks = λ h. refl; draws = λ h k. refl }

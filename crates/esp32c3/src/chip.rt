@@ -1,9 +1,11 @@
 //! The new chip over a block.
 ghost use Rattle.std.proofs.Common.{rules};
 ghost use Rattle.std.specs.Prelude.{◌≡◌, None, Some};
+ghost use Rattle.fields.specs.declared.TxField.TheVariants.{NewTxStart};
 ghost use Rattle.esp32c3.specs.Chip.{new_divider, new_keeps, new_masters, new_open_refusal, new_opens, new_own_events, new_refusal, new_rx, new_rx_at_open, new_rx_divider, new_tx, new_tx_at_open, new_tx_divider, new_updates};
-ghost use Rattle.esp32c3.specs.Laws.{rx_divides, rx_opens, tx_divides, tx_opens};
+ghost use Rattle.esp32c3.specs.Laws.{rx_divides, rx_handles, rx_opens, tx_divides, tx_halts, tx_handles, tx_opens};
 
+use crate::same;
 use crate::setup::UnitSetup;
 use blocks::RegBlock;
 use chips::{
@@ -114,6 +116,8 @@ impl<B: RegBlock> RegisterAccessPrivate for Esp32C3<B> {
 
     ghost updates = { new_updates };
 
+    ghost tx_start_field = { NewTxStart };
+
     ghost own_events = { new_own_events };
 
     ghost tx_divider = { new_tx_divider };
@@ -138,8 +142,18 @@ impl<B: RegBlock> RegisterAccessPrivate for Esp32C3<B> {
 
     ghost rx_opens = { rx_opens };
 
+    ghost tx_handles = { tx_handles };
+
+    ghost rx_handles = { rx_handles };
+
+    ghost tx_halts = { tx_halts };
+
     fn check(config: &UnitConfig, format: DataFormat) -> Result<UnitSetup, ConfigError> {
         UnitSetup::of(config, format)
+    }
+
+    fn same_config(a: &UnitConfig, b: &UnitConfig) -> bool {
+        same::same_config(a, b)
     }
 
     fn check_open(config: &Config) -> Result<Opening, (Side, ConfigError)> {

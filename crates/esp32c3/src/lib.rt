@@ -2,6 +2,7 @@
 #![tactic(auto)]
 
 mod chip;
+mod same;
 mod setup;
 
 pub use chip::{Esp32C3, Opening};
