@@ -1,0 +1,2 @@
+pub mod Early
+pub mod Nearest
