@@ -5,3 +5,4 @@ mod field_name;
 mod table;
 
 pub use field_name::FieldName;
+pub use table::{RX_FIELDS, TX_FIELDS};
