@@ -4,4 +4,4 @@
 mod lines;
 mod wrong;
 
-pub use wrong::WrongText;
+pub use wrong::{BadLineText, LackText, WrongText};

@@ -60,6 +60,31 @@ fn write_missing<W: fmt::Write>(
     Ok(())
 }
 
+/// What is wrong with a line that is not read, and what is expected.
+#[derive(Clone, Copy)]
+pub struct BadLineText(pub BadLine);
+
+impl fmt::Display for BadLineText {
+    fn fmt<W: fmt::Write>(&self, f: &mut fmt::Formatter<W>) -> fmt::Result {
+        let Wrong { what, expected } = bad_line(self.0);
+        write!(f, "{what}; {expected} is expected")
+    }
+}
+
+/// What is wrong with a key of a sheet, and what is expected.
+#[derive(Clone, Copy)]
+pub struct LackText {
+    pub key: Key,
+    pub lack: Lack,
+}
+
+impl fmt::Display for LackText {
+    fn fmt<W: fmt::Write>(&self, f: &mut fmt::Formatter<W>) -> fmt::Result {
+        let Wrong { what, expected } = lacking(self.key, self.lack);
+        write!(f, "{}: {what}; {expected} is expected", self.key)
+    }
+}
+
 // What is wrong with a line, and what is expected.
 #[derive(Clone, Copy)]
 struct Wrong {
