@@ -2,7 +2,7 @@
 use fields::{RxField, TxField};
 
 /// The transmit half's fields, in the order of their places.
-pub const TX_FIELDS: [TxField; 66] = [
+pub static TX_FIELDS: [TxField; 66] = [
     TxField::OldTxBckDivNum,
     TxField::OldTxBitsMod,
     TxField::OldTxSlaveMod,
@@ -72,7 +72,7 @@ pub const TX_FIELDS: [TxField; 66] = [
 ];
 
 /// The receive half's fields, in the order of their places.
-pub const RX_FIELDS: [RxField; 63] = [
+pub static RX_FIELDS: [RxField; 63] = [
     RxField::OldRxBckDivNum,
     RxField::OldRxBitsMod,
     RxField::OldRxSlaveMod,
