@@ -88,27 +88,35 @@ impl fmt::Display for RefusalText {
     fn fmt<W: fmt::Write>(&self, f: &mut fmt::Formatter<W>) -> fmt::Result {
         let Refused { error, fault } = self.refused;
         write!(f, "refused by {}, {error:?}: ", error.number())?;
-        match fault {
-            Fault::NoneActive => f.write_str("active slots 0, at least 1 is needed")?,
-            Fault::Slots(slots) => write!(f, "slots {slots}, at most {MOST_SLOTS} is possible")?,
-            Fault::WsWidth { bits, most } => write!(
-                f,
-                "word select is active for {bits} bits, from 1 to {most} is possible"
-            )?,
-            Fault::Frame(bits) => write!(f, "frame {bits} bits, at most {MOST_FRAME} is possible")?,
-            Fault::NoRate => f.write_str("rate 0 Hz, at least 1 is needed")?,
-            Fault::Clock(hertz) => {
-                write!(f, "a clock of {hertz} Hz, at most {MOST_CLOCK} is possible")?
-            }
-            Fault::IntegerPart(n) => {
-                let DividerRange { least, most } = self.range;
-                write!(f, "integer part {n}, from {least} to {most} is possible")?;
-            }
-            Fault::Pair(denominator, numerator) => write!(
-                f,
-                "pair {denominator} {numerator}, the second has to be below the first"
-            )?,
-        }
+        write_fault(f, fault, self.range)?;
         f.write_char('\n')
+    }
+}
+
+fn write_fault<W: fmt::Write>(
+    f: &mut fmt::Formatter<W>,
+    fault: Fault,
+    range: DividerRange,
+) -> fmt::Result {
+    match fault {
+        Fault::NoneActive => f.write_str("active slots 0, at least 1 is needed"),
+        Fault::Slots(slots) => write!(f, "slots {slots}, at most {MOST_SLOTS} is possible"),
+        Fault::WsWidth { bits, most } => write!(
+            f,
+            "word select is active for {bits} bits, from 1 to {most} is possible"
+        ),
+        Fault::Frame(bits) => write!(f, "frame {bits} bits, at most {MOST_FRAME} is possible"),
+        Fault::NoRate => f.write_str("rate 0 Hz, at least 1 is needed"),
+        Fault::Clock(hertz) => {
+            write!(f, "a clock of {hertz} Hz, at most {MOST_CLOCK} is possible")
+        }
+        Fault::IntegerPart(n) => {
+            let DividerRange { least, most } = range;
+            write!(f, "integer part {n}, from {least} to {most} is possible")
+        }
+        Fault::Pair(denominator, numerator) => write!(
+            f,
+            "pair {denominator} {numerator}, the second has to be below the first"
+        ),
     }
 }
