@@ -1,8 +1,8 @@
 //! Compares what each register function of both chips does with what the published Rust's does, in order.
 
-mod asked;
-mod block;
-mod expected;
+pub mod asked;
+pub mod block;
+pub mod expected;
 mod inputs;
 pub mod list;
 mod rust;

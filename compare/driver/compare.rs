@@ -4,12 +4,13 @@ mod chips;
 mod exact;
 mod inputs;
 mod judge;
+mod orders;
 mod proved;
 mod published;
 mod setups;
 mod tally;
 
-use std::{env, process::ExitCode};
+use std::{env, path::PathBuf, process::ExitCode};
 
 use tally::Tally;
 
@@ -30,9 +31,11 @@ fn main() -> ExitCode {
     let mut programs = env::args_os().skip(1);
     let set_ups_explained =
         setups::compare(programs.next().expect("the path of setup_oracle").into());
-    let calls_explained = chips::compare(programs.next().expect("the path of chip_oracle").into());
+    let chip_oracle: PathBuf = programs.next().expect("the path of chip_oracle").into();
+    let calls_explained = chips::compare(chip_oracle.clone());
+    let orders_explained = orders::compare(chip_oracle);
     print_skipped();
-    if explained && set_ups_explained && calls_explained {
+    if explained && set_ups_explained && calls_explained && orders_explained {
         ExitCode::SUCCESS
     } else {
         ExitCode::FAILURE
@@ -69,6 +72,7 @@ fn print_skipped() {
     println!("  standard set-ups, defaults and the functions that change one field of a set-up");
     println!("  rx_start at length 0: the Rust subtracts 1 from it");
     println!("  an allowance of 65,535 that is used up: more notes than are kept");
+    println!("  write_words and read_words: in orders each is a start and a wait");
     println!("  widths and values after a reset of the registers, and puts of one write as one");
     println!("seed of the random inputs: {:#x}", inputs::SEED);
 }

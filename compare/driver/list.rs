@@ -8,6 +8,8 @@ mod exact;
 #[allow(dead_code)]
 mod inputs;
 #[allow(dead_code)]
+mod orders;
+#[allow(dead_code)]
 mod published;
 #[allow(dead_code)]
 mod setups;
@@ -45,15 +47,20 @@ fn print_answers() {
 
 fn print_calls() {
     println!("# seed of the random inputs: {SEED:#x}");
-    for (call, _) in chips::list::lines() {
+    for (call, _) in call_lines() {
         println!("{call}");
     }
 }
 
 fn print_call_answers() {
-    for (_, answer) in chips::list::lines() {
+    for (_, answer) in call_lines() {
         println!("{answer}");
     }
+}
+
+/// Calls alone, and then orders.
+fn call_lines() -> impl Iterator<Item = (String, String)> {
+    chips::list::lines().into_iter().chain(orders::list::lines())
 }
 
 fn print_dividers() {

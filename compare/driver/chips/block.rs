@@ -1,6 +1,8 @@
 //! A block behind the registers of the published driver: it moves as docs/RULES.md says, answers what
 //! the driver reads, and notes each put, clear, enabling and poll as `chip_oracle` prints them.
 
+use std::collections::VecDeque;
+
 use recorder::{Behind, Event};
 
 use super::{
@@ -23,8 +25,28 @@ const EVENTS: [[&str; 4]; 2] =
 /// All but hung, which stand at the end of every transfer.
 const ENDED: [bool; 4] = [false, true, true, true];
 
-#[derive(Clone, Copy, Default)]
+/// What a start draws behind the last row of a script: a transfer that is not seen to end.
+const AFTER_THE_LAST: Draw = Draw { late: 0, wait: u32::MAX, hung: false };
+
+/// What the starts of a half draw.
+#[derive(Clone)]
+enum Draws {
+    Paced(Draw),
+    Scripted(VecDeque<Draw>),
+}
+
+impl Draws {
+    fn next(&mut self) -> Draw {
+        match self {
+            Draws::Paced(draw) => *draw,
+            Draws::Scripted(rows) => rows.pop_front().unwrap_or(AFTER_THE_LAST),
+        }
+    }
+}
+
+#[derive(Clone)]
 struct Half {
+    draws: Draws,
     busy: bool,
     late: u32,
     wait: u32,
@@ -34,7 +56,20 @@ struct Half {
 }
 
 impl Half {
-    fn start(&mut self, draw: Draw) {
+    fn at_rest(draws: Draws) -> Half {
+        Half {
+            draws,
+            busy: false,
+            late: 0,
+            wait: 0,
+            hung: false,
+            stand: [false; 4],
+            enabled: [false; 4],
+        }
+    }
+
+    fn start(&mut self) {
+        let draw = self.draws.next();
         self.busy = true;
         self.late = draw.late;
         self.wait = draw.wait;
@@ -77,9 +112,9 @@ impl Half {
 /// The events that a write of int_clr or int_ena names, with the bit that is put for each.
 type Named = [[Option<bool>; 4]; 2];
 
+#[derive(Clone)]
 pub struct Block {
     chip: Chip,
-    draw: Draw,
     halves: [Half; 2],
     idle: bool,
     named: Named,
@@ -98,31 +133,50 @@ pub struct Block {
 }
 
 impl Block {
-    pub fn new(
-        chip: Chip,
-        before: Before,
-        allowance: Option<u16>,
-        for_both: Option<bool>,
-    ) -> Block {
-        let mut block = Block {
+    /// A block to which nothing was done, whose starts draw the rows of a list for each half, transmit first.
+    pub fn scripted(chip: Chip, [tx, rx]: [&[Draw]; 2]) -> Block {
+        let script = |rows: &[Draw]| Draws::Scripted(rows.iter().copied().collect());
+        Block::at_rest(chip, [script(tx), script(rx)])
+    }
+
+    fn at_rest(chip: Chip, draws: [Draws; 2]) -> Block {
+        Block {
             chip,
-            draw: before.draw,
-            halves: [Half::default(); 2],
+            halves: draws.map(Half::at_rest),
             idle: true,
             named: Named::default(),
-            for_both,
-            allowance,
+            for_both: None,
+            allowance: None,
             polls: 0,
             used_up: false,
             notes: Vec::new(),
             wrong: Vec::new(),
             reads: 0,
             writes: 0,
-        };
+        }
+    }
+
+    /// A function begins, with so many polls allowed and nothing noted.
+    pub fn begin(&mut self, allowance: Option<u16>, for_both: Option<bool>) {
+        self.allowance = allowance;
+        self.for_both = for_both;
+        self.polls = 0;
+        self.used_up = false;
+        self.notes.clear();
+    }
+
+    pub fn new(
+        chip: Chip,
+        before: Before,
+        allowance: Option<u16>,
+        for_both: Option<bool>,
+    ) -> Block {
+        let mut block = Block::at_rest(chip, [before.draw; 2].map(Draws::Paced));
+        block.begin(allowance, for_both);
         for (side, course) in [before.tx, before.rx].into_iter().enumerate() {
             let half = &mut block.halves[side];
             if course != Course::Rest {
-                half.start(before.draw);
+                half.start();
             }
             if course == Course::Ended {
                 half.late = 0;
@@ -157,8 +211,8 @@ impl Block {
     fn store(&mut self, field: &'static str, number: u32) {
         self.notes.push(format!("put {field} {number}"));
         match (field, number) {
-            ("tx_start", 1) => self.halves[TX].start(self.draw),
-            ("rx_start", 1) => self.halves[RX].start(self.draw),
+            ("tx_start", 1) => self.halves[TX].start(),
+            ("rx_start", 1) => self.halves[RX].start(),
             ("tx_reset", 1) => self.halves[TX].busy = false,
             ("rx_reset", 1) => self.halves[RX].busy = false,
             _ => {}

@@ -45,13 +45,13 @@ pub struct Expected {
 const EVENT_NAMES: [&str; 4] = ["rx_hung", "tx_hung", "rx_done", "tx_done"];
 
 /// The events that the old chip has.
-const OLD_EVENTS: u8 = 3;
+pub const OLD_EVENTS: u8 = 3;
 
 /// More polls than any draw of the inputs asks for.
-const ENOUGH: u16 = 1_000;
+pub const ENOUGH: u16 = 1_000;
 
 /// Notes that a line of the port has at most.
-pub const MOST_NOTES: usize = 128;
+pub const MOST_NOTES: usize = 2_048;
 
 /// Nothing where the Rust would do more than the port's block notes. Nothing of it may be left
 /// unexplained: that is an error.
@@ -119,9 +119,7 @@ fn kind(asked: Asked) -> Kind {
 
 fn answer(call: Call, block: &Block, events: u8) -> String {
     if call == Call::Interrupts {
-        let mut words = vec!["answer"];
-        words.extend((0..4).filter(|bit| events >> bit & 1 != 0).map(|bit| EVENT_NAMES[bit]));
-        words.join(" ")
+        events_answer(events)
     } else if call.allowance().is_some() {
         format!("answer {}", block.polls)
     } else {
@@ -129,8 +127,15 @@ fn answer(call: Call, block: &Block, events: u8) -> String {
     }
 }
 
+/// The answer with the events of a mask.
+pub fn events_answer(events: u8) -> String {
+    let mut words = vec!["answer"];
+    words.extend((0..4).filter(|bit| events >> bit & 1 != 0).map(|bit| EVENT_NAMES[bit]));
+    words.join(" ")
+}
+
 /// At the known cut rates the port puts the Rust's split of the better pair; whether it does.
-fn put_better_split(call: Call, notes: &mut [String]) -> Result<bool, String> {
+pub fn put_better_split(call: Call, notes: &mut [String]) -> Result<bool, String> {
     let units = match call {
         Call::Configure(tx, rx) => [("tx", Some(tx)), ("rx", Some(rx))],
         Call::ConfigureTx(unit) => [("tx", Some(unit)), ("rx", None)],

@@ -258,7 +258,7 @@ pub fn bad_lines() -> Vec<String> {
         "0 configure_tx 0 0 0 0 0 0 0 0 0 0",
         "0 configure 0 0 0 0 0 0 44100 2 0 0 0 0 0 0 0 0",
         // More than a block notes: a receive half at rest never ends.
-        "1 wait_for_rx_done 0 0 0 0 0 0 129",
+        "1 wait_for_rx_done 0 0 0 0 0 0 2049",
     ];
     lines.map(str::to_string).to_vec()
 }

@@ -189,7 +189,8 @@ pub fn random(count: usize) -> Vec<Unit> {
         .collect()
 }
 
-fn sane(random: &mut Random) -> Unit {
+/// One that passes.
+pub fn sane(random: &mut Random) -> Unit {
     let format = random.below(FORMATS as u64) as usize;
     let most = 128 / plain(1, format, random).data_bits() as u64;
     let count = 1 + random.below(most.min(15)) as u8;
@@ -197,7 +198,8 @@ fn sane(random: &mut Random) -> Unit {
     Unit { width: sane_width(unit.frame(), random), ..unit }
 }
 
-fn any(random: &mut Random) -> Unit {
+/// One that may be refused.
+pub fn any(random: &mut Random) -> Unit {
     let count = 1 + random.below(15) as u8;
     let format = random.below(FORMATS as u64) as usize;
     let unit = plain(count, format, random);

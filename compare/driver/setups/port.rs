@@ -21,9 +21,14 @@ impl Port {
         Ok(answers.lines().map(str::to_string).collect())
     }
 
-    /// Whether the program ends with 1 at the second of two lines, says so, and answers the first.
+    /// Whether the program ends with 1 at the second of some lines, says so, and answers the first.
     pub fn refuses_line(&self, good: &str, bad: &str) -> bool {
-        let output = self.run(&format!("{good}\n{bad}\n"));
+        self.refuses_second(good, bad, "")
+    }
+
+    /// The same with lines behind it.
+    pub fn refuses_second(&self, good: &str, bad: &str, rest: &str) -> bool {
+        let output = self.run(&format!("{good}\n{bad}\n{rest}"));
         let said = String::from_utf8_lossy(&output.stderr).into_owned();
         output.status.code() == Some(1)
             && output.stdout.iter().filter(|byte| **byte == b'\n').count() == 1

@@ -1,6 +1,7 @@
-//! Stand-in for the module `dma`: its types and traits, with transfers that do nothing.
+//! Stand-in for the module `dma`: its types and traits, with transfers that do nothing. A descriptor stands for one byte, so a
+//! chain refuses a transfer that is longer than the chain.
 
-use core::marker::PhantomData;
+use core::{marker::PhantomData, ptr::NonNull};
 
 use crate::{Async, Blocking, DriverMode};
 
@@ -38,6 +39,12 @@ pub type PeripheralTxChannel<T> = <PeripheralDmaChannel<T> as DmaChannel>::Tx;
 
 pub trait DmaChannelFor<P: DmaEligible>: DmaChannel {
     fn degrade(self) -> PeripheralDmaChannel<P>;
+}
+
+impl<P: DmaEligible<Dma = AnyChannel>> DmaChannelFor<P> for AnyChannel {
+    fn degrade(self) -> AnyChannel {
+        self
+    }
 }
 
 pub struct ChannelRx<Dm: DriverMode, CH>(PhantomData<(Dm, CH)>);
@@ -94,19 +101,28 @@ impl DescriptorChain {
         &mut self,
         _circular: bool,
         _data: *const u8,
-        _len: usize,
+        len: usize,
     ) -> Result<(), DmaError> {
-        Ok(())
+        self.fill(len)
     }
 
     pub unsafe fn fill_for_rx(
         &mut self,
         _circular: bool,
         _data: *mut u8,
-        _len: usize,
+        len: usize,
     ) -> Result<(), DmaError> {
-        Ok(())
+        self.fill(len)
     }
+
+    fn fill(&self, len: usize) -> Result<(), DmaError> {
+        if len > self.0.len() { Err(DmaError) } else { Ok(()) }
+    }
+}
+
+/// So many descriptors, which take no room.
+pub fn descriptors(count: u16) -> &'static mut [DmaDescriptor] {
+    Vec::from_iter((0..count).map(|_| DmaDescriptor)).leak()
 }
 
 pub unsafe trait ReadBuffer {
@@ -126,6 +142,21 @@ pub unsafe trait WriteBuffer {
 unsafe impl WriteBuffer for &mut [u8] {
     unsafe fn write_buffer(&mut self) -> (*mut u8, usize) {
         (self.as_mut_ptr(), self.len())
+    }
+}
+
+/// A buffer of so many bytes, which no transfer reads or writes.
+pub struct OfLength(pub usize);
+
+unsafe impl ReadBuffer for OfLength {
+    unsafe fn read_buffer(&self) -> (*const u8, usize) {
+        (NonNull::dangling().as_ptr(), self.0)
+    }
+}
+
+unsafe impl WriteBuffer for OfLength {
+    unsafe fn write_buffer(&mut self) -> (*mut u8, usize) {
+        (NonNull::dangling().as_ptr(), self.0)
     }
 }
 

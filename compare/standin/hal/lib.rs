@@ -29,7 +29,7 @@ macro_rules! window {
         pub const MAX: u32 = I2S_LL_MCLK_DIVIDER_MAX as u32;
 
         /// The first peripheral, with the recorder behind its registers.
-        fn first() -> Self {
+        fn first() -> AnyI2s<'static> {
             AnyI2s(AnyI2sInner::I2s0(I2S0(core::marker::PhantomData)))
         }
 
@@ -157,6 +157,74 @@ macro_rules! window {
         #[inline(never)]
         pub fn set_up_rx(config: &UnitConfig, format: DataFormat) -> Result<(), ConfigError> {
             Self::first().configure_rx(config, format)
+        }
+
+        /// The published driver's two units, opened over chains of so many bytes.
+        #[inline(never)]
+        pub fn units(
+            config: Config,
+            tx_limit: u16,
+            rx_limit: u16,
+        ) -> Result<(I2sTx<'static, Blocking>, I2sRx<'static, Blocking>), ConfigError> {
+            let i2s = I2s::new(Self::first(), crate::dma::AnyChannel, config)?;
+            let tx = i2s.i2s_tx.build(crate::dma::descriptors(tx_limit));
+            let rx = i2s.i2s_rx.build(crate::dma::descriptors(rx_limit));
+            Ok((tx, rx))
+        }
+
+        #[inline(never)]
+        pub fn tx_applied(
+            tx: &mut I2sTx<'static, Blocking>,
+            config: &UnitConfig,
+        ) -> Result<(), ConfigError> {
+            tx.apply_config(config)
+        }
+
+        #[inline(never)]
+        pub fn rx_applied(
+            rx: &mut I2sRx<'static, Blocking>,
+            config: &UnitConfig,
+        ) -> Result<(), ConfigError> {
+            rx.apply_config(config)
+        }
+
+        /// Begins a transfer of so many bytes, which nothing ends but the two below.
+        #[inline(never)]
+        pub fn write_begun(tx: &mut I2sTx<'static, Blocking>, len: usize) -> Result<(), Error> {
+            tx.write_dma(&crate::dma::OfLength(len)).map(|_| ())
+        }
+
+        #[inline(never)]
+        pub fn read_begun(rx: &mut I2sRx<'static, Blocking>, len: usize) -> Result<(), Error> {
+            rx.read_dma(&mut crate::dma::OfLength(len)).map(|_| ())
+        }
+
+        /// A read into words, which is a transfer that is waited for.
+        #[inline(never)]
+        pub fn words_read(rx: &mut I2sRx<'static, Blocking>, words: &mut [u8]) -> Result<(), Error> {
+            rx.read_words(words)
+        }
+
+        /// What a transfer does when it is waited for.
+        #[inline(never)]
+        pub fn write_ended(tx: &mut I2sTx<'static, Blocking>) {
+            tx.peripheral_wait_dma(false, true)
+        }
+
+        #[inline(never)]
+        pub fn read_ended(rx: &mut I2sRx<'static, Blocking>) {
+            rx.peripheral_wait_dma(true, false)
+        }
+
+        /// What a transfer does when it is stopped.
+        #[inline(never)]
+        pub fn write_stopped(tx: &mut I2sTx<'static, Blocking>) {
+            tx.peripheral_dma_stop()
+        }
+
+        #[inline(never)]
+        pub fn read_stopped(rx: &mut I2sRx<'static, Blocking>) {
+            rx.peripheral_dma_stop()
         }
 
         /// `Channels::new`; inlined into another crate it would have that crate's overflow checks.

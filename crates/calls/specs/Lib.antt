@@ -1,5 +1,6 @@
 pub mod Accepted
 pub mod Agree
+pub mod Joined
 pub mod Laws
 pub mod Opening
 pub mod Rules

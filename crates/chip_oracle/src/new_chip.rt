@@ -1,15 +1,16 @@
 //! Calls of the new chip, which has a set-up for each unit.
 
 use crate::before::Before;
-use crate::calls::{Answer, call};
+use crate::functions::{Answer, call};
+use crate::order::{self, Line, Listed, Opening};
 use crate::print;
 use blocks::RegBlock;
 use chips::RegisterAccessPrivate;
 use coded::esp32c3_unit;
 use esp32c3::Esp32C3;
-use recorded::Recorded;
+use recorded::{Notes, Recorded};
 use setups::esp32c3::{Config, UnitConfig};
-use simulated::PacedBlock;
+use simulated::{PacedBlock, ScriptedBlock};
 use std::io;
 
 // The numbers of a unit.
@@ -76,4 +77,31 @@ pub(crate) fn run(
         Some(answer) => print::all(rt, &chip.block.notes, answer),
         None => Ok(false),
     }
+}
+
+impl<B: RegBlock> Listed for Esp32C3<Recorded<B>> {
+    fn read_config(row: &[u32]) -> Option<Config> {
+        let (tx, rx) = row.split_at_checked(WORDS)?;
+        Some(Config {
+            tx_config: esp32c3_unit(tx)?,
+            rx_config: esp32c3_unit(rx)?,
+        })
+    }
+
+    fn read_unit(row: &[u32]) -> Option<UnitConfig> {
+        esp32c3_unit(row)
+    }
+
+    fn notes(&self) -> &Notes {
+        &self.block.notes
+    }
+}
+
+/// Makes an order and prints what its calls did; false where a line is none of one.
+pub(crate) fn make_order(rt: &HostRuntime, opening: &Opening, lines: &[Line]) -> io::Result<bool> {
+    let block = ScriptedBlock::new(opening.tx_draws.as_slice(), opening.rx_draws.as_slice());
+    let chip = Esp32C3 {
+        block: Recorded::new(block),
+    };
+    order::make(rt, chip, opening, lines)
 }

@@ -1,15 +1,16 @@
 //! Calls of the old chip, which has one rate and one format for both units.
 
 use crate::before::Before;
-use crate::calls::{Answer, call};
+use crate::functions::{Answer, call};
+use crate::order::{self, Line, Listed, Opening};
 use crate::print;
 use blocks::RegBlock;
 use chips::RegisterAccessPrivate;
 use coded::{esp32_both, esp32_format, esp32_unit};
 use esp32::Esp32;
-use old_setups::Config;
-use recorded::Recorded;
-use simulated::PacedBlock;
+use old_setups::{Config, UnitConfig};
+use recorded::{Notes, Recorded};
+use simulated::{PacedBlock, ScriptedBlock};
 use std::io;
 
 // Takes a set-up of both units over, or says what refuses it.
@@ -74,4 +75,27 @@ pub(crate) fn run(
         Some(answer) => print::all(rt, &chip.block.notes, answer),
         None => Ok(false),
     }
+}
+
+impl<B: RegBlock> Listed for Esp32<Recorded<B>> {
+    fn read_config(row: &[u32]) -> Option<Config> {
+        esp32_both(row)
+    }
+
+    fn read_unit(row: &[u32]) -> Option<UnitConfig> {
+        esp32_unit(row)
+    }
+
+    fn notes(&self) -> &Notes {
+        &self.block.notes
+    }
+}
+
+/// Makes an order and prints what its calls did; false where a line is none of one.
+pub(crate) fn make_order(rt: &HostRuntime, opening: &Opening, lines: &[Line]) -> io::Result<bool> {
+    let block = ScriptedBlock::new(opening.tx_draws.as_slice(), opening.rx_draws.as_slice());
+    let chip = Esp32 {
+        block: Recorded::new(block),
+    };
+    order::make(rt, chip, opening, lines)
 }

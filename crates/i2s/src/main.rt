@@ -1,6 +1,15 @@
 //! The tool of gins and support: one subcommand for each task.
 #![tactic(auto)]
 
+mod agree;
+mod bad;
+mod driven;
+mod parts;
+mod replay;
+mod script;
+mod show;
+mod told;
+
 use answers::{answer_line, summary};
 use anyhow::anyhow;
 use plans::{Lines, Tally};
@@ -14,6 +23,11 @@ const HELP: &str =
                     blank lines and lines that begin with # pass
 i2s setup [FILE]    check one unit's set-up, a line KEY VALUE for each key of FILE, or of standard input where there is none or a -,
                     draw one frame of it, and list each field that it puts; docs/RULES.md says which keys and values there are
+i2s replay FILE     open a chip as the script FILE says, make its calls on both units, say what each answers, and at the end which
+                    dividers both units have; docs/RULES.md says what a script is
+i2s agree FILE OTHER
+                    open the chip of FILE twice, make the calls of FILE on one and those of OTHER on the other, and say whether every
+                    answer and both halves agree, or where they part
 i2s help            say this
 ";
 
@@ -69,28 +83,68 @@ fn setup(rt: &HostRuntime, path: &str) -> anyhow::Result<()> {
     Ok(print!(rt; "{}", reply.text)?)
 }
 
+// `replay`: what a script's calls answer.
+fn replay_file(rt: &HostRuntime, path: &str) -> anyhow::Result<()> {
+    match read_input(rt, path) {
+        Ok(bytes) => replay::replay(rt, bytes.as_slice()),
+        Err(e) => {
+            eprintln!(rt; "i2s replay: '{path}' cannot be read: {e}")?;
+            Err(anyhow!("the script cannot be read"))
+        }
+    }
+}
+
+// `agree`: whether two orders from one opening agree.
+fn agree_files(rt: &HostRuntime, path: &str, other: &str) -> anyhow::Result<()> {
+    match (read_input(rt, path), read_input(rt, other)) {
+        (Ok(text), Ok(other_text)) => agree::agree(rt, text.as_slice(), other_text.as_slice()),
+        _ => Err(anyhow!("'{path}' or '{other}' cannot be read")),
+    }
+}
+
+// Makes a task with the words behind it, of which there are none, one or two.
+fn run(
+    rt: &HostRuntime,
+    task: &str,
+    file: Option<&str>,
+    other: Option<&str>,
+) -> anyhow::Result<()> {
+    match (task, file, other) {
+        ("help", _, _) => Ok(print!(rt; "{HELP}")?),
+        ("agree", Some(file), Some(other)) => agree_files(rt, file, other),
+        ("agree", _, _) => misused(rt, "i2s agree: two files are needed"),
+        ("clocks", _, Some(_)) => misused(rt, "i2s clocks: one file at most"),
+        ("setup", _, Some(_)) => misused(rt, "i2s setup: one file at most"),
+        ("replay", _, Some(_)) => misused(rt, "i2s replay: one file at most"),
+        ("clocks", file, None) => clocks(rt, file.unwrap_or("-")),
+        ("setup", file, None) => setup(rt, file.unwrap_or("-")),
+        ("replay", file, None) => replay_file(rt, file.unwrap_or("-")),
+        _ => unknown(rt, task),
+    }
+}
+
+// How the tool is used, behind what was wrong.
+fn misused(rt: &HostRuntime, what: &str) -> anyhow::Result<()> {
+    eprint!(rt; "{what}\n{HELP}")?;
+    Err(anyhow!("usage"))
+}
+
+fn unknown(rt: &HostRuntime, task: &str) -> anyhow::Result<()> {
+    eprint!(rt; "i2s: no task is called '{task}'\n{HELP}")?;
+    Err(anyhow!("usage"))
+}
+
+fn word(arg: &Option<String>) -> Option<&str> {
+    arg.as_ref().map(|word| word.as_str())
+}
+
 fn main(rt: HostRuntime) -> anyhow::Result<()> {
     let mut args = env::args(&rt)?;
     let _ = args.next();
-    let command = args.next();
-    let file = args.next();
-    let more = args.next().is_some();
-    let path = file.as_ref().map_or("-", |path| path.as_str());
-    match command.as_ref().map(|word| word.as_str()) {
-        Some("clocks") if !more => clocks(&rt, path),
-        Some("setup") if !more => setup(&rt, path),
-        Some("help") => Ok(print!(rt; "{HELP}")?),
-        Some(task @ ("clocks" | "setup")) => {
-            eprint!(rt; "i2s {task}: one file at most\n{HELP}")?;
-            Err(anyhow!("usage"))
-        }
-        Some(word) => {
-            eprint!(rt; "i2s: no task is called '{word}'\n{HELP}")?;
-            Err(anyhow!("usage"))
-        }
-        None => {
-            eprint!(rt; "i2s: a task is needed\n{HELP}")?;
-            Err(anyhow!("usage"))
-        }
+    let words = [args.next(), args.next(), args.next(), args.next()];
+    match &words {
+        [None, ..] => misused(&rt, "i2s: a task is needed"),
+        [Some(task), file, other, None] => run(&rt, task.as_str(), word(file), word(other)),
+        _ => misused(&rt, "i2s: a task has two files at most"),
     }
 }

@@ -31,41 +31,33 @@ fn of_rx(interrupts: I2sInterrupts) -> I2sInterrupts
     }
 }
 
-// Turns the transmit unit's own events on or off.
+/// Turns the transmit unit's own events on or off.
 #[tactic(auto, using(crate::proofs::Nothing::none_enabled))]
-pub(crate) fn listen_tx<C: RegisterAccessPrivate>(
-    chip: &mut C,
-    interrupts: I2sInterrupts,
-    enable: bool,
-)
+pub fn listen_tx<C: RegisterAccessPrivate>(chip: &mut C, interrupts: I2sInterrupts, enable: bool)
     ensures { OnTx C.tx C.rx C.common (listened (tx_own interrupts C.own_events) enable) chip.old chip.new }
 {
     chip.enable_listen(of_tx(interrupts), enable);
 }
 
-// Turns the receive unit's own events on or off.
+/// Turns the receive unit's own events on or off.
 #[tactic(auto, using(crate::proofs::Nothing::none_enabled))]
-pub(crate) fn listen_rx<C: RegisterAccessPrivate>(
-    chip: &mut C,
-    interrupts: I2sInterrupts,
-    enable: bool,
-)
+pub fn listen_rx<C: RegisterAccessPrivate>(chip: &mut C, interrupts: I2sInterrupts, enable: bool)
     ensures { OnRx C.tx C.rx C.common (listened (rx_own interrupts C.own_events) enable) chip.old chip.new }
 {
     chip.enable_listen(of_rx(interrupts), enable);
 }
 
-// Ends the transmit unit's own events.
+/// Ends the transmit unit's own events.
 #[tactic(auto, using(crate::proofs::Nothing::none_cleared))]
-pub(crate) fn clear_tx<C: RegisterAccessPrivate>(chip: &mut C, interrupts: I2sInterrupts)
+pub fn clear_tx<C: RegisterAccessPrivate>(chip: &mut C, interrupts: I2sInterrupts)
     ensures { OnTx C.tx C.rx C.common (forgotten (tx_own interrupts C.own_events)) chip.old chip.new }
 {
     chip.clear_interrupts(of_tx(interrupts));
 }
 
-// Ends the receive unit's own events.
+/// Ends the receive unit's own events.
 #[tactic(auto, using(crate::proofs::Nothing::none_cleared))]
-pub(crate) fn clear_rx<C: RegisterAccessPrivate>(chip: &mut C, interrupts: I2sInterrupts)
+pub fn clear_rx<C: RegisterAccessPrivate>(chip: &mut C, interrupts: I2sInterrupts)
     ensures { OnRx C.tx C.rx C.common (forgotten (rx_own interrupts C.own_events)) chip.old chip.new }
 {
     chip.clear_interrupts(of_rx(interrupts));

@@ -13,8 +13,8 @@ const MAX_LEN: usize = 4_096;
 
 const WORD: usize = 4;
 
-// Takes a set-up over into the receive half, if it passes at the format that the unit keeps.
-pub(crate) fn apply_rx<C: RegisterAccessPrivate>(
+/// Takes a set-up over into the receive half, if it passes at the format that the unit keeps.
+pub fn apply_rx<C: RegisterAccessPrivate>(
     chip: &mut C,
     format: C::DataFormat,
     config: &C::UnitConfig,
@@ -27,8 +27,8 @@ pub(crate) fn apply_rx<C: RegisterAccessPrivate>(
     Ok(())
 }
 
-// Starts a transfer, if the unit takes its length.
-pub(crate) fn start_rx<C: RegisterAccessPrivate>(
+/// Starts a transfer, if the unit takes its length.
+pub fn start_rx<C: RegisterAccessPrivate>(
     chip: &mut C,
     limit: u16,
     len: usize,
@@ -49,7 +49,7 @@ fn begin<C: RegisterAccessPrivate>(chip: &mut C, limit: u16, len: u32) -> Result
     ensures none { IfOk result (λ polls. polls ≡ 0) }
     ensures half { OnRx C.tx C.rx C.common (rx_begin_leaves C.rx_moves limit len) chip.old chip.new }
 {
-    reset(chip);
+    reset_rx(chip);
     if len > u32::from(limit) {
         return Err(Error::DmaError(DmaError {
             length: len as usize,
@@ -60,8 +60,8 @@ fn begin<C: RegisterAccessPrivate>(chip: &mut C, limit: u16, len: u32) -> Result
     Ok(0)
 }
 
-// Waits until a transfer is finished.
-pub(crate) fn wait_rx<C: RegisterAccessPrivate>(chip: &mut C, allowance: u16) -> Result<u32, Error>
+/// Waits until a transfer is finished.
+pub fn wait_rx<C: RegisterAccessPrivate>(chip: &mut C, allowance: u16) -> Result<u32, Error>
     ensures answer { polls_told result ≡ wait_says C.rx_moves allowance (C.rx chip.old) }
     ensures within { IfOk result (λ polls. polls ≤ allowance) }
     ensures half { OnRx C.tx C.rx C.common (waited C.rx_moves allowance) chip.old chip.new }
@@ -72,8 +72,8 @@ pub(crate) fn wait_rx<C: RegisterAccessPrivate>(chip: &mut C, allowance: u16) ->
     }
 }
 
-// Resets the receive half, for a start and for the end of a transfer that is abandoned.
-fn reset<C: RegisterAccessPrivate>(chip: &mut C)
+/// Resets the receive half, for a start and for the end of a transfer that is abandoned.
+pub fn reset_rx<C: RegisterAccessPrivate>(chip: &mut C)
     ensures { OnRx C.tx C.rx C.common C.rx_moves.resets chip.old chip.new }
 {
     chip.reset_rx();

@@ -11,8 +11,8 @@ use errors::{DmaError, Error};
 // The longest transfer, in bytes.
 const MAX_LEN: usize = 65_535;
 
-// Takes a set-up over into the transmit half, if it passes at the format that the unit keeps.
-pub(crate) fn apply_tx<C: RegisterAccessPrivate>(
+/// Takes a set-up over into the transmit half, if it passes at the format that the unit keeps.
+pub fn apply_tx<C: RegisterAccessPrivate>(
     chip: &mut C,
     format: C::DataFormat,
     config: &C::UnitConfig,
@@ -25,8 +25,8 @@ pub(crate) fn apply_tx<C: RegisterAccessPrivate>(
     Ok(())
 }
 
-// Starts a transfer, if the unit takes its length.
-pub(crate) fn start_tx<C: RegisterAccessPrivate>(
+/// Starts a transfer, if the unit takes its length.
+pub fn start_tx<C: RegisterAccessPrivate>(
     chip: &mut C,
     limit: u16,
     len: usize,
@@ -75,8 +75,8 @@ fn raise<C: RegisterAccessPrivate>(chip: &mut C, allowance: u16) -> Result<u32, 
     }
 }
 
-// Waits until a transfer is finished.
-pub(crate) fn wait_tx<C: RegisterAccessPrivate>(chip: &mut C, allowance: u16) -> Result<u32, Error>
+/// Waits until a transfer is finished.
+pub fn wait_tx<C: RegisterAccessPrivate>(chip: &mut C, allowance: u16) -> Result<u32, Error>
     ensures answer { polls_told result ≡ wait_says C.tx_moves allowance (C.tx chip.old) }
     ensures within { IfOk result (λ polls. polls ≤ allowance) }
     ensures half { OnTx C.tx C.rx C.common (waited C.tx_moves allowance) chip.old chip.new }

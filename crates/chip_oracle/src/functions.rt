@@ -32,9 +32,22 @@ fn plain<C: RegisterAccessPrivate>(chip: &mut C, name: &str, arguments: &[u32]) 
         ("enable_listen", [mask, on]) => {
             chip.enable_listen(read_interrupts(*mask)?, read_flag(*on)?);
         }
-        ("listen", [mask]) => chip.listen(read_interrupts(*mask)?),
-        ("unlisten", [mask]) => chip.unlisten(read_interrupts(*mask)?),
-        ("clear_interrupts", [mask]) => chip.clear_interrupts(read_interrupts(*mask)?),
+        (_, [mask]) => return of_events(chip, name, read_interrupts(*mask)?),
+        _ => return None,
+    }
+    Some(())
+}
+
+// The same of a call with events.
+fn of_events<C: RegisterAccessPrivate>(
+    chip: &mut C,
+    name: &str,
+    events: I2sInterrupts,
+) -> Option<()> {
+    match name {
+        "listen" => chip.listen(events),
+        "unlisten" => chip.unlisten(events),
+        "clear_interrupts" => chip.clear_interrupts(events),
         _ => return None,
     }
     Some(())
