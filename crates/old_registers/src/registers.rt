@@ -122,7 +122,7 @@ pub fn rx_start<B: RegBlock>(block: &mut B, len: u32)
     ensures half { OnRx B.tx B.rx B.common (rx_started len) block.old block.new }
     ensures busy { (B.rx block.new).marks.busy ≡ true }
 {
-    block.clear(Side::Receive, EOF);
+    end_rx(block);
     block.put(Field::Rx(RxField::OldRxEofNum), len / WORD);
     block.put(Field::Rx(RxField::OldRxStart), 1);
 }
