@@ -33,7 +33,7 @@ pub struct Esp32C3<B> {
 }
 
 /// The set-up of both units that passed this chip's check.
-#[derive(Clone, Copy, Drop)]
+#[derive(Drop)]
 pub struct Opening {
     tx: UnitSetup,
     rx: UnitSetup,

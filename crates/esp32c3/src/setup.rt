@@ -7,7 +7,7 @@ use dividers::ConfigError;
 use setups::esp32c3::{ClockReach, DataFormat, UnitConfig, UnitNumbers};
 
 /// A unit's set-up that passed this chip's check, with its numbers, and the format that its unit keeps.
-#[derive(Clone, Copy, Drop)]
+#[derive(Drop)]
 pub struct UnitSetup {
     pub(crate) config: UnitConfig,
     pub(crate) format: DataFormat,
