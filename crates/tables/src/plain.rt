@@ -60,14 +60,25 @@ impl Plain {
         ensures tx_draws { T.to_come tx.new ≡ later (draws_on tx_row (in_tx field) value) (T.to_come tx.old) }
         ensures rx_draws { R.to_come rx.new ≡ later (draws_on rx_row (in_rx field) value) (R.to_come rx.old) }
     {
-        let number = stored(field, value);
-        self.table[field.place()] = number;
+        let number = self.store(field, value);
         let starts = is_start(field, value);
         match field {
             Field::Tx(_) => put_on(&mut self.tx, field.kind(), number, tx, starts),
             Field::Rx(_) => put_on(&mut self.rx, field.kind(), number, rx, starts),
             Field::Common(_) => {}
         }
+    }
+
+    // Stores what fits of the value, and answers that.
+    fn store(&mut self, field: Field, value: u32) -> u32
+        ensures answer { result ≡ stored_in field value }
+        ensures table { self.new.table ≡ slice_set self.old.table (place_of field) (stored_in field value) }
+        ensures tx { self.new.tx ≡ self.old.tx }
+        ensures rx { self.new.rx ≡ self.old.rx }
+    {
+        let number = stored(field, value);
+        self.table[field.place()] = number;
+        number
     }
 
     /// The marks of a half.
