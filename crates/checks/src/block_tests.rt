@@ -38,7 +38,7 @@ const AT_ONCE: Draw = Draw {
 };
 
 // The rows of the worked example in docs/RULES.md: whether a poll finds the half idle, and busy, late and wait after it.
-const COURSE: [(bool, bool, u32, u32); 8] = [
+static COURSE: [(bool, bool, u32, u32); 8] = [
     (true, true, 1, 3),
     (true, true, 0, 3),
     (false, true, 0, 2),
@@ -53,9 +53,9 @@ const COURSE: [(bool, bool, u32, u32); 8] = [
 fn worked_example<B: RegBlock>(rt: &impl Abort, block: &mut B) {
     block.put(TX_START, 3);
     assert_eq!(rt; block.get(TX_START), 1);
-    for (idle, busy, _, _) in COURSE {
-        assert!(rt; block.poll_tx() == idle);
-        let events = if busy { NONE } else { ENDED_HUNG };
+    for (idle, busy, _, _) in COURSE.iter() {
+        assert!(rt; block.poll_tx() == *idle);
+        let events = if *busy { NONE } else { ENDED_HUNG };
         assert!(rt; block.events(Side::Transmit) == events);
     }
     assert!(rt; block.reported(Side::Transmit) == NONE && block.events(Side::Receive) == NONE);
@@ -65,10 +65,10 @@ fn worked_example<B: RegBlock>(rt: &impl Abort, block: &mut B) {
 fn marks_go_as_in_the_worked_example(rt: HostRuntime) {
     let mut block = PacedBlock::new(WORKED, AT_ONCE);
     block.put(TX_START, 3);
-    for (idle, busy, late, wait) in COURSE {
-        assert!(rt; block.poll_tx() == idle);
+    for (idle, busy, late, wait) in COURSE.iter() {
+        assert!(rt; block.poll_tx() == *idle);
         let marks = block.marks(Side::Transmit);
-        assert!(rt; marks.busy == busy && marks.late == late && marks.wait == wait);
+        assert!(rt; marks.busy == *busy && marks.late == *late && marks.wait == *wait);
         assert!(rt; marks.stale && marks.link && !marks.pending && marks.hung);
     }
 }
@@ -98,7 +98,7 @@ fn a_receive_half_never_looks_at_late(rt: HostRuntime) {
 }
 
 // A field of each width that there is, of both chips, with its width in bits.
-const WIDTHS: [(Field, u32); 12] = [
+static WIDTHS: [(Field, u32); 12] = [
     (Field::Rx(RxField::OldRxMono), 1),
     (Field::Tx(TxField::NewTxClkSel), 2),
     (Field::Tx(TxField::OldTxChanMod), 3),
@@ -118,12 +118,12 @@ const WIDTHS: [(Field, u32); 12] = [
 fn numbers_are_cut(rt: HostRuntime) {
     let mut block = PacedBlock::new(WORKED, WORKED);
     for value in [u32::MAX, 0, 0x5555_5555, 0xaaaa_aaaa] {
-        for (field, _) in WIDTHS {
-            block.put(field, value);
+        for (field, _) in WIDTHS.iter() {
+            block.put(*field, value);
         }
-        for (field, width) in WIDTHS {
-            assert_eq!(rt; field.width(), width);
-            assert_eq!(rt; block.get(field), value << (32 - width) >> (32 - width));
+        for (field, width) in WIDTHS.iter() {
+            assert_eq!(rt; field.width(), *width);
+            assert_eq!(rt; block.get(*field), value << (32 - *width) >> (32 - *width));
         }
     }
 }

@@ -74,7 +74,7 @@ fn a_new_wait_goes_by_its_polls(rt: HostRuntime) {
     assert!(rt; chip.tx_start(0) == Some(0));
     assert!(rt; chip.wait_for_tx_done(0) == None && chip.wait_for_tx_done(9) == Some(1));
     assert!(rt; chip.block.marks(Side::Transmit).busy);
-    assert_eq!(rt; chip.get(Field::Tx(TxField::NewTxStart)), 0);
+    assert_eq!(rt; chip.block.get(Field::Tx(TxField::NewTxStart)), 0);
 }
 
 // Both chips find a receive after its waits, and clear the event of its end.
@@ -82,19 +82,19 @@ fn a_new_wait_goes_by_its_polls(rt: HostRuntime) {
 fn a_receive_ends_after_its_waits(rt: HostRuntime) {
     let mut new = new_chip(DRAWS);
     new.rx_start(4_096);
-    assert_eq!(rt; new.get(Field::Rx(RxField::NewRxEofNum)), 4_095);
+    assert_eq!(rt; new.block.get(Field::Rx(RxField::NewRxEofNum)), 4_095);
     assert!(rt; new.wait_for_rx_done(3) == None && new.wait_for_rx_done(65_535) == Some(1));
-    assert!(rt; !new.events(Side::Receive).done && new.events(Side::Receive).eof);
+    assert!(rt; !new.block.events(Side::Receive).done && new.block.events(Side::Receive).eof);
     let mut old = old_chip(DRAWS);
     old.rx_start(4_096);
-    assert_eq!(rt; old.get(Field::Rx(RxField::OldRxEofNum)), 1_024);
+    assert_eq!(rt; old.block.get(Field::Rx(RxField::OldRxEofNum)), 1_024);
     assert!(rt; old.wait_for_rx_done(65_535) == Some(4));
-    assert!(rt; !old.events(Side::Receive).eof && old.events(Side::Receive).done);
+    assert!(rt; !old.block.events(Side::Receive).eof && old.block.events(Side::Receive).done);
     old.rx_start(0);
     new.rx_start(0);
     assert!(rt;
-        old.get(Field::Rx(RxField::OldRxEofNum)) == 0
-            && new.get(Field::Rx(RxField::NewRxEofNum)) == 0
+        old.block.get(Field::Rx(RxField::OldRxEofNum)) == 0
+            && new.block.get(Field::Rx(RxField::NewRxEofNum)) == 0
     );
 }
 
@@ -119,17 +119,17 @@ fn events_are_the_chips_own(rt: HostRuntime) {
     let (mut new, mut old) = (new_chip(DRAWS), old_chip(DRAWS));
     new.listen(ALL);
     old.listen(ALL);
-    assert!(rt; new.enabled(Side::Receive).done && !old.enabled(Side::Receive).done);
-    assert!(rt; new.enabled(Side::Transmit).hung && old.enabled(Side::Transmit).hung);
+    assert!(rt; new.block.enabled(Side::Receive).done && !old.block.enabled(Side::Receive).done);
+    assert!(rt; new.block.enabled(Side::Transmit).hung && old.block.enabled(Side::Transmit).hung);
     new.rx_start(4);
     let _ = new.wait_for_rx_done(0);
     for _ in 0..4 {
-        let _ = new.poll_rx();
+        let _ = new.block.poll_rx();
     }
     assert!(rt; new.interrupts().rx_hung && new.interrupts().rx_done && !new.interrupts().tx_done);
     new.clear_interrupts(ALL);
     new.unlisten(ALL);
-    assert!(rt; new.interrupts() == NONE && !new.enabled(Side::Receive).hung);
+    assert!(rt; new.interrupts() == NONE && !new.block.enabled(Side::Receive).hung);
 }
 
 // Each of the 16 masks turns on those of its events that the chip has, and turning them off leaves none.
@@ -145,20 +145,26 @@ fn every_mask_is_taken(rt: HostRuntime) {
         let (mut new, mut old) = (new_chip(DRAWS), old_chip(DRAWS));
         new.listen(named);
         old.listen(named);
-        let (tx, rx) = (new.enabled(Side::Transmit), new.enabled(Side::Receive));
+        let (tx, rx) = (
+            new.block.enabled(Side::Transmit),
+            new.block.enabled(Side::Receive),
+        );
         assert!(rt;
             tx.hung == named.tx_hung && tx.done == named.tx_done && !tx.link_done && !tx.eof
         );
         assert!(rt;
             rx.hung == named.rx_hung && rx.done == named.rx_done && !rx.link_done && !rx.eof
         );
-        let (tx, rx) = (old.enabled(Side::Transmit), old.enabled(Side::Receive));
+        let (tx, rx) = (
+            old.block.enabled(Side::Transmit),
+            old.block.enabled(Side::Receive),
+        );
         assert!(rt; tx.hung == named.tx_hung && !tx.done && !tx.link_done && !tx.eof);
         assert!(rt; rx.hung == named.rx_hung && !rx.done && !rx.link_done && !rx.eof);
         new.unlisten(named);
         old.unlisten(named);
-        assert!(rt; new.enabled(Side::Transmit) == Events::none());
-        assert!(rt; old.enabled(Side::Receive) == Events::none());
+        assert!(rt; new.block.enabled(Side::Transmit) == Events::none());
+        assert!(rt; old.block.enabled(Side::Receive) == Events::none());
     }
 }
 
@@ -176,8 +182,8 @@ fn any_length_starts_a_receive(rt: HostRuntime) {
         let (mut new, mut old) = (new_chip(DRAWS), old_chip(DRAWS));
         new.rx_start(len);
         old.rx_start(len);
-        assert_eq!(rt; new.get(Field::Rx(RxField::NewRxEofNum)), of_new);
-        assert_eq!(rt; old.get(Field::Rx(RxField::OldRxEofNum)), of_old);
+        assert_eq!(rt; new.block.get(Field::Rx(RxField::NewRxEofNum)), of_new);
+        assert_eq!(rt; old.block.get(Field::Rx(RxField::OldRxEofNum)), of_old);
         assert!(rt; new.block.marks(Side::Receive).busy && old.block.marks(Side::Receive).busy);
     }
 }
@@ -209,9 +215,9 @@ fn dividers_are_those_of_the_set_ups(rt: HostRuntime) -> Result<(), Fail> {
     new.configure_tx(&Esp32C3::<PacedBlock>::check(&slow, format)?);
     new.configure_rx(&Esp32C3::<PacedBlock>::check(&fast, format)?);
     let parts = [
-        new.get(Field::Tx(TxField::NewTxClkmDivNum)),
-        new.get(Field::Rx(RxField::NewRxClkmDivNum)),
-        new.get(Field::Rx(RxField::NewRxClkmDivX)),
+        new.block.get(Field::Tx(TxField::NewTxClkmDivNum)),
+        new.block.get(Field::Rx(RxField::NewRxClkmDivNum)),
+        new.block.get(Field::Rx(RxField::NewRxClkmDivX)),
     ];
     assert!(rt; parts == [78, 13, 47]);
     let both = old::Config::new_tdm_philips().with_sample_rate(Rate::from_hz(44_100));
@@ -220,10 +226,10 @@ fn dividers_are_those_of_the_set_ups(rt: HostRuntime) -> Result<(), Fail> {
         old.configure(&opening);
     }
     let parts = [
-        old.get(Field::Common(CommonField::OldClkmDivNum)),
-        old.get(Field::Common(CommonField::OldClkmDivA)),
-        old.get(Field::Common(CommonField::OldClkmDivB)),
-        old.get(Field::Rx(RxField::OldRxBckDivNum)),
+        old.block.get(Field::Common(CommonField::OldClkmDivNum)),
+        old.block.get(Field::Common(CommonField::OldClkmDivA)),
+        old.block.get(Field::Common(CommonField::OldClkmDivB)),
+        old.block.get(Field::Rx(RxField::OldRxBckDivNum)),
     ];
     assert!(rt; parts == [14, 29, 5, 8]);
     Ok(())

@@ -5,7 +5,7 @@ use fields::Side;
 use std::test::Fail;
 
 // An error, its number, and its text.
-const ERRORS: [(Error, u8, &str); 9] = [
+static ERRORS: [(Error, u8, &str); 9] = [
     (
         Error::ConfigError(ConfigError::ChannelsOutOfRange),
         1,
@@ -58,10 +58,10 @@ const ERRORS: [(Error, u8, &str); 9] = [
 
 #[test]
 fn refusals_have_their_numbers_and_texts(rt: HostRuntime) -> Result<(), Fail> {
-    for (error, number, text) in ERRORS {
-        assert_eq!(rt; error.number(), number);
+    for (error, number, text) in ERRORS.iter() {
+        assert_eq!(rt; error.number(), *number);
         let written = error.to_string(rt.alloc())?;
-        assert_eq!(rt; written.as_str(), text);
+        assert_eq!(rt; written.as_str(), *text);
     }
     Ok(())
 }

@@ -23,7 +23,7 @@ mod tests {
     use std::test::Fail;
 
     // Rate, channels, bits and MAX; integer part, bit divider, denominator and numerator.
-    const ANSWERS: [(u32, u8, u8, u32, [u32; 4]); 7] = [
+    static ANSWERS: [(u32, u8, u8, u32, [u32; 4]); 7] = [
         (44_100, 2, 16, 63, [14, 8, 29, 5]),
         (44_100, 2, 16, 511, [14, 8, 441, 76]),
         (44_100, 2, 16, u32::MAX, [14, 8, 441, 76]),
@@ -35,16 +35,16 @@ mod tests {
 
     #[test]
     fn dividers_are_found(rt: HostRuntime) -> Result<(), Fail> {
-        for (rate, channels, bits, max, numbers) in ANSWERS {
-            let d = I2sClockDividers::new(Rate::from_hz(rate), channels, bits, max)?;
+        for (rate, channels, bits, max, numbers) in ANSWERS.iter() {
+            let d = I2sClockDividers::new(Rate::from_hz(*rate), *channels, *bits, *max)?;
             let found = [d.mclk_divider, d.bclk_divider, d.denominator, d.numerator];
-            assert_eq!(rt; found, numbers);
+            assert_eq!(rt; found, *numbers);
         }
         Ok(())
     }
 
     // Clocks that are 0 or pass 32 bits, each for one reason.
-    const REFUSED: [(u32, u8, u8); 6] = [
+    static REFUSED: [(u32, u8, u8); 6] = [
         (0, 2, 16),
         (44_100, 0, 16),
         (44_100, 2, 0),
@@ -55,8 +55,8 @@ mod tests {
 
     #[test]
     fn clocks_out_of_range_are_refused(rt: HostRuntime) -> Result<(), Fail> {
-        for (rate, channels, bits) in REFUSED {
-            let answer = I2sClockDividers::new(Rate::from_hz(rate), channels, bits, 63);
+        for (rate, channels, bits) in REFUSED.iter() {
+            let answer = I2sClockDividers::new(Rate::from_hz(*rate), *channels, *bits, 63);
             assert_eq!(rt; answer.err(), Some(ConfigError::RateOutOfRange));
         }
         Ok(())

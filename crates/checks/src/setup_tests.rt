@@ -44,7 +44,7 @@ fn settled_set_ups_are_as_settled(rt: HostRuntime) -> Result<(), Fail> {
 }
 
 // Counts and masks with 8 bits a slot, and why they are refused, if they are.
-const CHANNELS: [(u8, u16, Option<ConfigError>); 10] = [
+static CHANNELS: [(u8, u16, Option<ConfigError>); 10] = [
     (0, 0xffff, Some(ConfigError::ChannelsOutOfRange)),
     (1, 0xffff, None),
     (1, 0xfffe, Some(ConfigError::ChannelsOutOfRange)),
@@ -59,16 +59,16 @@ const CHANNELS: [(u8, u16, Option<ConfigError>); 10] = [
 
 #[test]
 fn channels_are_counted_and_masked(rt: HostRuntime) {
-    for (count, mask, error) in CHANNELS {
-        let config = with_slots(count, mask).with_data_format(DataFormat::Data8Channel8);
-        assert!(rt; refusal(config) == error);
+    for (count, mask, error) in CHANNELS.iter() {
+        let config = with_slots(*count, *mask).with_data_format(DataFormat::Data8Channel8);
+        assert!(rt; refusal(config) == *error);
     }
     assert_eq!(rt; Channels::new(3, 0xffff, None).mask(), 0b111);
     assert_eq!(rt; Channels::new(16, 0xffff, None).active_count(), 16);
 }
 
 // Widths in bits with four slots of 32, and with one of 8.
-const WIDTHS: [(u16, bool, bool); 7] = [
+static WIDTHS: [(u16, bool, bool); 7] = [
     (0, false, false),
     (1, true, true),
     (8, true, true),
@@ -82,9 +82,9 @@ const WIDTHS: [(u16, bool, bool); 7] = [
 fn word_select_stays_in_the_frame(rt: HostRuntime) {
     let long = with_slots(4, 0b1111).with_data_format(DataFormat::Data32Channel32);
     let short = with_slots(1, 1).with_data_format(DataFormat::Data8Channel8);
-    for (bits, in_long, in_short) in WIDTHS {
-        let width = WsWidth::Bits(bits);
-        for (config, passes) in [(long, in_long), (short, in_short)] {
+    for (bits, in_long, in_short) in WIDTHS.iter() {
+        let width = WsWidth::Bits(*bits);
+        for (config, passes) in [(long, *in_long), (short, *in_short)] {
             let wrong = if passes {
                 None
             } else {
@@ -98,7 +98,7 @@ fn word_select_stays_in_the_frame(rt: HostRuntime) {
 }
 
 // Rates in stereo at 16 bits, and why both chips refuse them, if they do.
-const RATES: [(u32, Option<ConfigError>); 9] = [
+static RATES: [(u32, Option<ConfigError>); 9] = [
     (0, Some(ConfigError::RateOutOfRange)),
     (1, Some(ConfigError::ClockOutOfReach)),
     (2_441, Some(ConfigError::ClockOutOfReach)),
@@ -112,10 +112,10 @@ const RATES: [(u32, Option<ConfigError>); 9] = [
 
 #[test]
 fn rates_are_refused_alike(rt: HostRuntime) {
-    for (hertz, error) in RATES {
-        let old = OldConfig::new_tdm_philips().with_sample_rate(Rate::from_hz(hertz));
-        assert!(rt; refusal(at_rate(hertz)) == error);
-        assert!(rt; old.check(OldReach::esp32()).err() == error);
+    for (hertz, error) in RATES.iter() {
+        let old = OldConfig::new_tdm_philips().with_sample_rate(Rate::from_hz(*hertz));
+        assert!(rt; refusal(at_rate(*hertz)) == *error);
+        assert!(rt; old.check(OldReach::esp32()).err() == *error);
     }
 }
 

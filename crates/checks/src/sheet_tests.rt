@@ -4,7 +4,7 @@ use replies::{Outcome, Reaches, reply_to};
 use std::test::Fail;
 
 // A sheet, what comes of it, and the text.
-const SHEETS: [(&str, Outcome, &str); 15] = [
+static SHEETS: [(&str, Outcome, &str); 15] = [
     // The new chip, slots that are not active, a fill.
     (
         "chip ESP32-C3\n\
@@ -486,10 +486,10 @@ const SHEETS: [(&str, Outcome, &str); 15] = [
 
 #[test]
 fn sheets_are_replied_to(rt: HostRuntime) -> Result<(), Fail> {
-    for (sheet, outcome, text) in SHEETS {
+    for (sheet, outcome, text) in SHEETS.iter() {
         let reply = reply_to(rt.alloc(), sheet.as_bytes(), Reaches::of_chips())?;
-        assert!(rt; reply.outcome == outcome);
-        assert_eq!(rt; reply.text.as_str(), text);
+        assert!(rt; reply.outcome == *outcome);
+        assert_eq!(rt; reply.text.as_str(), *text);
     }
     Ok(())
 }

@@ -13,7 +13,7 @@ use setups::esp32c3 as new;
 use simulated::PacedBlock;
 use std::alloc::Global;
 use std::test::Fail;
-use units::{Opened, open};
+use units::{Opened, RxResting, TxResting, open};
 
 pub const NO_EVENTS: I2sInterrupts = I2sInterrupts {
     rx_hung: false,
@@ -194,6 +194,15 @@ pub(crate) fn on_two_new(
     }
 }
 
+/// Opens the new chip; of both units no transfer is longer than `limit`.
+pub(crate) fn open_new(
+    draw: Draw,
+    config: &new::Config,
+    limit: u16,
+) -> Result<(Opened<NewChip>, TxResting<NewChip>, RxResting<NewChip>), (NewChip, OpenError)> {
+    open(new_chip(draw), config, limit, limit)
+}
+
 /// What refuses an opening of the new chip, and the number in a field of the chip that is given back.
 pub(crate) fn refused_new(config: &new::Config, field: Field) -> Option<(OpenError, u32)> {
     let draw = Draw {
@@ -201,7 +210,7 @@ pub(crate) fn refused_new(config: &new::Config, field: Field) -> Option<(OpenErr
         wait: 0,
         hung: false,
     };
-    match open(new_chip(draw), config, 1, 1) {
+    match open_new(draw, config, 1) {
         Ok(_) => None,
         Err((chip, error)) => Some((error, chip.get(field))),
     }

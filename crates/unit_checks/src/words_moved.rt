@@ -1,10 +1,10 @@
 //! Words written and read: starts and waits joined.
-use crate::chips_opened::{LIMIT, new_chip, new_config};
+use crate::chips_opened::{LIMIT, new_config, open_new};
 use errors::{DmaError, Error};
 use joined::{AcceptedWord, read_words, write_words};
 use marks::Draw;
 use std::test::Fail;
-use units::{Unit, open};
+use units::Unit;
 
 const DRAW: Draw = Draw {
     late: 0,
@@ -18,7 +18,7 @@ fn written<W: AcceptedWord>(
     limit: u16,
     allowance: u16,
 ) -> Result<Result<u32, (Error, bool)>, Fail> {
-    match open(new_chip(DRAW), &new_config(), limit, LIMIT) {
+    match open_new(DRAW, &new_config(), limit) {
         Ok((opened, tx, _)) => {
             let mut opened = opened;
             Ok(match write_words(tx, &mut opened, words, 0, allowance) {
@@ -35,7 +35,7 @@ fn read<W: AcceptedWord>(
     words: &mut [W],
     allowance: u16,
 ) -> Result<Result<u32, (Error, bool)>, Fail> {
-    match open(new_chip(DRAW), &new_config(), LIMIT, LIMIT) {
+    match open_new(DRAW, &new_config(), LIMIT) {
         Ok((opened, _, rx)) => {
             let mut opened = opened;
             Ok(match read_words(rx, &mut opened, words, 0, allowance) {
