@@ -124,35 +124,30 @@ fn agree_on<C: Driven>(
     let set_ups = script.set_ups.as_slice();
     let calls = whole_calls::<C>(rt.alloc(), items, set_ups)?;
     let other_calls = whole_calls::<C>(rt.alloc(), script.items.as_slice(), set_ups)?;
-    compare_runs(
-        rt,
-        script,
-        items,
-        run_both(
-            rt.alloc(),
-            one,
-            other,
-            &config,
-            ready.tx_limit,
-            ready.rx_limit,
-            calls.as_slice(),
-            other_calls.as_slice(),
-        ),
-    )
+    let runs = run_both(
+        rt.alloc(),
+        one,
+        other,
+        &config,
+        ready.tx_limit,
+        ready.rx_limit,
+        calls.as_slice(),
+        other_calls.as_slice(),
+    );
+    compare_runs(rt, script, items, &runs)
 }
 
 fn compare_runs<C: Driven>(
     rt: &HostRuntime,
     script: &Script,
     items: &[Item],
-    runs: TwoRuns<C>,
+    runs: &TwoRuns<C>,
 ) -> anyhow::Result<()> {
-    let same_calls = runs.same_calls;
-    match (runs.one, runs.other) {
+    match (&runs.one, &runs.other) {
         (Ok((opened, ran)), Ok((other_opened, other_ran))) => {
-            print_same_calls(rt, same_calls)?;
-            let made = made_calls(rt.alloc(), items, &ran)?;
-            let other_made = made_calls(rt.alloc(), script.items.as_slice(), &other_ran)?;
+            print_same_calls(rt, runs.same_calls)?;
+            let made = made_calls(rt.alloc(), items, ran)?;
+            let other_made = made_calls(rt.alloc(), script.items.as_slice(), other_ran)?;
             let (made, other_made) = (made.as_slice(), other_made.as_slice());
             let set_ups = script.set_ups.as_slice();
             let answers_agree = compare_answers(rt, made, other_made, set_ups)?;
@@ -164,7 +159,7 @@ fn compare_runs<C: Driven>(
                 other_made.len(),
             )
         }
-        (Err((_, denied)), _) | (Ok(_), Err((_, denied))) => denied_text(denied),
+        (Err((_, denied)), _) | (Ok(_), Err((_, denied))) => denied_text(*denied),
     }
 }
 

@@ -391,13 +391,13 @@ impl<'a> Script<'a> {
     fn next_unit_call(&self, unit: Side, rest: &mut &'a [u8]) -> Result<UnitCall<usize>, Bad<'a>> {
         let name = *rest;
         match (next_text(rest), unit) {
-            ("apply", _) => Ok(UnitCall::ApplyConfig(self.next_set_up(rest)?)),
+            ("apply", _) => self.next_set_up(rest).map(UnitCall::ApplyConfig),
             ("start", _) => next_start(rest),
-            ("wait", _) => Ok(UnitCall::Wait(next_u16(rest, POLLS)?)),
+            ("wait", _) => next_u16(rest, POLLS).map(UnitCall::Wait),
             ("stop", Side::Transmit) | ("abandon", Side::Receive) => Ok(UnitCall::Stop),
-            ("listen", _) => Ok(UnitCall::Listen(next_events(rest)?)),
-            ("unlisten", _) => Ok(UnitCall::Unlisten(next_events(rest)?)),
-            ("clear", _) => Ok(UnitCall::ClearInterrupts(next_events(rest)?)),
+            ("listen", _) => next_events(rest).map(UnitCall::Listen),
+            ("unlisten", _) => next_events(rest).map(UnitCall::Unlisten),
+            ("clear", _) => next_events(rest).map(UnitCall::ClearInterrupts),
             (_, Side::Transmit) => Err(Bad::Unknown(name, TX_CALLS)),
             (_, Side::Receive) => Err(Bad::Unknown(name, RX_CALLS)),
         }
