@@ -2,6 +2,8 @@
 use dividers::ConfigError;
 use errors::{DmaError, Error, OpenError};
 use fields::Side;
+use std::alloc::Global;
+use std::process::Abort;
 use std::test::Fail;
 
 // An error, its number, and its text.
@@ -60,9 +62,14 @@ static ERRORS: [(Error, u8, &str); 9] = [
 fn refusals_have_their_numbers_and_texts(rt: HostRuntime) -> Result<(), Fail> {
     for (error, number, text) in ERRORS.iter() {
         assert_eq!(rt; error.number(), *number);
-        let written = error.to_string(rt.alloc())?;
-        assert_eq!(rt; written.as_str(), *text);
+        is_written(&rt, rt.alloc(), *error, text)?;
     }
+    Ok(())
+}
+
+fn is_written(rt: &impl Abort, heap: Global, error: Error, text: &str) -> Result<(), Fail> {
+    let written = error.to_string(heap)?;
+    assert_eq!(rt; written.as_str(), text);
     Ok(())
 }
 

@@ -1,7 +1,7 @@
 //! Tests of set-ups: the settled ones, each refusal at its limit, and values of every size.
 use dividers::{ConfigError, Rate};
+use fractions::{settled_frames, settled_rates};
 use old_setups::{ClockReach as OldReach, Config as OldConfig};
-use settled::{settled_frames, settled_rates};
 use setups::esp32c3::{Channels, ClockReach, DataFormat, UnitConfig, WsWidth};
 use std::test::Fail;
 

@@ -1,6 +1,8 @@
 //! Tests on examples of sheets: what comes of them, and the whole text of each reply.
 use dividers::ConfigError;
 use replies::{Outcome, Reaches, reply_to};
+use std::alloc::Global;
+use std::process::Abort;
 use std::test::Fail;
 
 // A sheet, what comes of it, and the text.
@@ -487,9 +489,20 @@ static SHEETS: [(&str, Outcome, &str); 15] = [
 #[test]
 fn sheets_are_replied_to(rt: HostRuntime) -> Result<(), Fail> {
     for (sheet, outcome, text) in SHEETS.iter() {
-        let reply = reply_to(rt.alloc(), sheet.as_bytes(), Reaches::of_chips())?;
-        assert!(rt; reply.outcome == *outcome);
-        assert_eq!(rt; reply.text.as_str(), *text);
+        is_replied_to(&rt, rt.alloc(), sheet, *outcome, text)?;
     }
+    Ok(())
+}
+
+fn is_replied_to(
+    rt: &impl Abort,
+    heap: Global,
+    sheet: &str,
+    outcome: Outcome,
+    text: &str,
+) -> Result<(), Fail> {
+    let reply = reply_to(heap, sheet.as_bytes(), Reaches::of_chips())?;
+    assert!(rt; reply.outcome == outcome);
+    assert_eq!(rt; reply.text.as_str(), text);
     Ok(())
 }

@@ -1,2 +1,3 @@
 mod Early
 mod Nearest
+mod Settled

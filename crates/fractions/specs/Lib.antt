@@ -1,2 +1,3 @@
 pub mod Early
 pub mod Nearest
+pub mod Settled

@@ -1,8 +1,6 @@
 //! The rates and set-ups whose figures are settled.
-#![tactic(auto)]
-
 ghost use Rattle.std.specs.Prelude.{◌≡◌};
-ghost use Rattle.settled.specs.Settled.{Settled, frames_settled, half_frame_of, rates_settled};
+ghost use Rattle.fractions.specs.Settled.{Settled, frames_settled, half_frame_of, rates_settled};
 
 use setups::esp32c3::{Channels, DataFormat, UnitConfig, WsWidth};
 

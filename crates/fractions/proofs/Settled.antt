@@ -1,7 +1,7 @@
 -- The settled figures, computed. Assumes nothing.
 use lib.Count.{ones}
 use Rattle.std.proofs.Common.{refl}
-use Rattle.settled.specs.Settled.{Settled}
+use Rattle.fractions.specs.Settled.{Settled}
 
 pub settled : Settled
 unfolding ones
