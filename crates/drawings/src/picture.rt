@@ -1,6 +1,6 @@
 //! The picture of a frame.
-use pictures::Frame;
 use std::fmt;
+use verdicts::Frame;
 
 // One frame, a column for each bit: the slots at their first bits, the data line, word select.
 #[derive(Clone, Copy)]

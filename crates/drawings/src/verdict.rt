@@ -2,10 +2,9 @@
 use crate::picture::PictureText;
 use dividers::{DividerRange, I2sClockDividers};
 use old_setups as esp32;
-use pictures::Frame;
 use setups::esp32c3;
 use std::fmt;
-use verdicts::{Fault, Refused};
+use verdicts::{Fault, Frame, Refused};
 
 // The most slots of a frame, the most bits of one, and the fastest clock in hertz.
 const MOST_SLOTS: u8 = 16;

@@ -23,7 +23,7 @@ pub struct Frame {
 const MOST_SLOTS: u16 = 16;
 
 impl Frame {
-    ghost use Rattle.pictures.specs.Frames.{ShowsNew, ShowsOld, data_mark, slot_begun, ws_mark};
+    ghost use Rattle.verdicts.specs.Frames.{ShowsNew, ShowsOld, data_mark, slot_begun, ws_mark};
 
     /// A frame of a set-up of the new chip.
     pub fn of_esp32c3(setup: &esp32c3::Setup) -> Frame

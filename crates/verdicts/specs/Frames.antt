@@ -7,7 +7,7 @@
 --     is_high frame b      whether word select is high
 --     ws_mark frame b      the mark of a bit of word select: - where it is high, _ where it is low
 use Rattle.std.specs.Prelude.{◌≡◌, ℕ, ◌+◌, ◌*◌, ◌/◌, ◌%◌, ◌^◌, Bool, cond, not, ◌&&◌, Some, None, Option, ◌==◌, nat_lt}
-use Rattle.pictures.specs.declared.frame.Frame.{Frame}
+use Rattle.verdicts.specs.declared.frame.Frame.{Frame}
 use Rattle.old_setups.specs.declared.Channels as Old
 use Rattle.old_setups.specs.declared.Channels.TheVariants.{Stereo, Mono, Left, Right}
 use Rattle.old_setups.specs.declared.Config.{Config}

@@ -1,6 +1,6 @@
 //! What a frame of the old chip shows of its channels and its width.
 ghost use Rattle.std.specs.Prelude.{◌≡◌};
-ghost use Rattle.pictures.specs.Frames.{active_of, width_of};
+ghost use Rattle.verdicts.specs.Frames.{active_of, width_of};
 
 use old_setups::{Channels, WsWidth};
 
