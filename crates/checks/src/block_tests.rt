@@ -113,9 +113,27 @@ static WIDTHS: [(Field, u32); 12] = [
     (Field::Tx(TxField::NewSingleData), 32),
 ];
 
-// Numbers that do not fit: each field keeps its lowest bits, and no field reaches into another.
+// Numbers that do not fit: what a field of one bit, of 12 and of 8 then holds.
 #[test]
 fn numbers_are_cut(rt: HostRuntime) {
+    let end = Field::Rx(RxField::NewRxEofNum);
+    let divider = Field::Common(CommonField::OldClkmDivNum);
+    let mut block = PacedBlock::new(WORKED, WORKED);
+    block.put(TX_START, 2);
+    let idle = !block.marks(Side::Transmit).busy;
+    block.put(TX_START, u32::MAX);
+    block.put(end, 4_096 + 7);
+    block.put(divider, 256 + 2);
+    let cut = [block.get(TX_START), block.get(end), block.get(divider)];
+    assert!(rt; cut == [1, 7, 2]);
+    let pending = block.marks(Side::Receive).pending;
+    block.put(Field::Rx(RxField::NewRxUpdate), 3);
+    assert!(rt; idle && pending && !block.marks(Side::Receive).pending);
+}
+
+// Each field keeps its lowest bits, and no field reaches into another.
+#[test]
+fn every_width_is_cut(rt: HostRuntime) {
     let mut block = PacedBlock::new(WORKED, WORKED);
     for value in [u32::MAX, 0, 0x5555_5555, 0xaaaa_aaaa] {
         for (field, _) in WIDTHS.iter() {

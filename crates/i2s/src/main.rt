@@ -144,7 +144,11 @@ fn main(rt: HostRuntime) -> anyhow::Result<()> {
     let words = [args.next(), args.next(), args.next(), args.next()];
     match &words {
         [None, ..] => misused(&rt, "i2s: a task is needed"),
-        [Some(task), file, other, None] => run(&rt, task.as_str(), word(file), word(other)),
-        _ => misused(&rt, "i2s: a task has two files at most"),
+        [Some(task), file, other, more] => match (task.as_str(), more) {
+            ("setup" | "replay" | "agree", Some(_)) => {
+                misused(&rt, "i2s: a task has two files at most")
+            }
+            (task, _) => run(&rt, task, word(file), word(other)),
+        },
     }
 }

@@ -56,7 +56,7 @@ impl<'a> Iterator for Lines<'a> {
         if self.text.is_empty() {
             return None;
         }
-        let (line, rest) = cut_line(self.text);
+        let (line, rest) = first_line(self.text);
         self.text = rest;
         Some(line)
     }
