@@ -102,7 +102,7 @@ fn agree_files(rt: &HostRuntime, path: &str, other: &str) -> anyhow::Result<()> 
     }
 }
 
-// Makes a task with the words behind it, of which there are none, one or two.
+// Makes a task with the first two words behind it, if there are any.
 fn run(
     rt: &HostRuntime,
     task: &str,

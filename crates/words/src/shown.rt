@@ -15,7 +15,7 @@ pub struct Shown<'a>(pub &'a [u8]);
 
 impl fmt::Display for Shown<'_> {
     fn fmt<W: fmt::Write>(&self, f: &mut fmt::Formatter<W>) -> fmt::Result {
-        // Written in one piece, which takes half the time of a character at a time.
+        // Written in one piece; a character at a time takes about twice as long.
         let mut text = [0u8; SHOWN * WIDEST];
         let mut len = 0;
         for byte in self.0.iter().take(SHOWN) {
